@@ -17,7 +17,7 @@ use Rattle.manual.specs.declared.Decoded.{Decoded}
 use Rattle.manual.specs.declared.Decoded.the-variants.{Found, NotFound}
 use Rattle.manual.specs.Places.{mem}
 use Rattle.manual.specs.Programs.{Prog, ret, rd, _>>=_, rightward}
-use Rattle.manual.specs.Formats.{formOf, namedOf, firstBase, widthOf, allowed}
+use Rattle.manual.specs.Formats.{formOf, operationOf, firstBase, widthOf, allowed}
 
 -- what an operand's bytes say, where byte is the instruction's k-th byte: a direct address is two bytes, high first; a displacement is one
 abbrev pub numberAt : Base → (ℕ → ℕ) → ℕ → ℕ
@@ -56,7 +56,7 @@ decodeNamed s iar f Unknown = NotFound OpcodeUnknown
 decodeNamed s iar f (Known op) = cond (ltb (length s - iar) (f .length)) (NotFound CutShort) (withQ iar f op (λ k. getD s (iar + k) 0))
 
 abbrev pub decodeOpcode : List ℕ → ℕ → ℕ → Decoded
-decodeOpcode s iar opcode = decodeNamed s iar (formOf (opcode / 16)) (namedOf (formOf (opcode / 16) .group) (opcode % 16))
+decodeOpcode s iar opcode = decodeNamed s iar (formOf (opcode / 16)) (operationOf opcode)
 
 -- what stands at IAR: at or past the storage size 4
 unfoldable pub decodeOf : List ℕ → ℕ → Decoded
@@ -71,7 +71,7 @@ fetchNamed size iar opcode f (Known op) =
     (rightward (f .length - 1) (iar + 1) >>= λ later. ret (withQ iar f op (λ k. getD (opcode ∷ later) k 0)))
 
 abbrev pub fetchOpcode : ℕ → ℕ → ℕ → Prog Decoded
-fetchOpcode size iar opcode = fetchNamed size iar opcode (formOf (opcode / 16)) (namedOf (formOf (opcode / 16) .group) (opcode % 16))
+fetchOpcode size iar opcode = fetchNamed size iar opcode (formOf (opcode / 16)) (operationOf opcode)
 
 unfoldable pub fetch : ℕ → ℕ → Prog Decoded
 fetch size iar = cond (leb size iar) (ret (NotFound CutShort)) (rd (mem iar) λ opcode. fetchOpcode size iar opcode)

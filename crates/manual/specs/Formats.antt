@@ -81,6 +81,10 @@ namedOf OneAddress r = getD oneAddress r Unknown
 namedOf Branch r = getD branches r Unknown
 namedOf Jump r = getD jumps r Unknown
 
+-- the operation that an opcode names
+abbrev pub operationOf : ℕ → Named
+operationOf opcode = namedOf (formOf (opcode / 16) .group) (opcode % 16)
+
 -- what byte 3 of F0, F1 and F2 counts from: ARR, backward and forward from the next instruction
 abbrev pub jumpBases : List Base
 jumpBases = FromArr ∷ Backward ∷ Forward ∷ []
