@@ -150,8 +150,10 @@ e-scan (suc n) a v σ x =
   where
     one : (n : ℕ) → min (0 + 1) (suc n) ≡ 1
     one n = omega arith
+
     next : (k n : ℕ) → min (suc k + 1) (suc n) ≡ suc (min (k + 1) n)
     next k n = omega arith
+
     on : (b : Bool) → reads (scan n (a + 1) v) (put (mem a) v σ) x ≡ elem x (span (min (before (set (σ .bytes) a v) n (a + 1) + 1) n) (a + 1))
         → before (set (σ .bytes) a v) n (a + 1) ≡ before (σ .bytes) n (a + 1)
         → (same (mem a) x || reads (cond b (ret a) (wr (mem a) v (scan n (a + 1) v))) σ x)
