@@ -1,13 +1,14 @@
 -- What a step and a run keep: all of it where they stop, the storage's length always, and every number below its limit where it was so before.
 -- What carries it: `Keeps`, a predicate on programs that one induction turns into the bounds, and a short lemma for each operation.
 use mathlib.Core.Path.{_≡_, refl, sym, ap, _∙_}
-use mathlib.Core.Bool.{Bool, true, false, cond}
+use mathlib.Core.Bool.{Bool, true, false, cond, _&&_}
 use mathlib.Core.List.{List, [], _∷_}
 use Prim.Native.Nat.{ℕ, zero, suc, _+_, _-_, _*_, _/_, _%_, _≤_, _<_}
 use native.Mathlib.Omega.{arith}
 use native.Mathlib.Nat.{lt-of-le-of-lt}
 use lib.ListN.{length, getD, set, length-set}
 use lib.Dec.{eqb, ltb, leb}
+use lib.IntN.{ℤ, natAbs, _+ℤ_, _-ℤ_}
 use lib.Bits.{bitAnd, bitOr, or-lt, and-le-l}
 use borrow.Author.Tests.{ltb-true, lt-ltb, eqb-true, eqb-false}
 use Rattle.manual.specs.declared.Machine.{Machine}
@@ -21,11 +22,32 @@ use Rattle.manual.specs.declared.Way.{Way}
 use Rattle.manual.specs.declared.Way.the-variants.{Clear, Barred}
 use Rattle.manual.specs.declared.Answer.{Answer}
 use Rattle.manual.specs.declared.Answer.the-variants.{Executed, Refused, Stopped}
+use Rattle.manual.specs.declared.Operation.{Operation}
+use Rattle.manual.specs.declared.Operation.the-variants.{Zaz, Az, Sz, Mvx, Ed, Itc, Mvc, Clc, Alc, Slc, St, L, A, S, Tbn, Tbf, Sbn, Sbf, Mvi, Cli, Sli, Bc, Jc, La, Svc}
+use Rattle.manual.specs.declared.Named.{Named}
+use Rattle.manual.specs.declared.Named.the-variants.{Known, Unknown}
+use Rattle.manual.specs.declared.Base.{Base}
+use Rattle.manual.specs.declared.Base.the-variants.{Absent, Direct, FromXr1, FromXr2, FromArr, Forward, Backward}
+use Rattle.manual.specs.declared.Form.{Form}
+use Rattle.manual.specs.declared.Instruction.{Instruction}
+use Rattle.manual.specs.declared.Fields.{Fields}
+use Rattle.manual.specs.declared.Columns.{Columns}
+use Rattle.manual.specs.declared.Decoded.{Decoded}
+use Rattle.manual.specs.declared.Decoded.the-variants.{Found, NotFound}
 use Rattle.manual.specs.Numbers.{stopTold, answerTold, numberOf, told}
 use Rattle.manual.specs.Places.{Place, mem, reg, State, state, look, put}
 use Rattle.manual.specs.Programs.{Prog, ret, rd, wr, val, fin, _>>=_, rightward, leftward, Out, stop, go, Given, Rule, unless, andThen}
-use Rattle.manual.specs.TheMachine.{sizeAllowed, statusAllowed, isOn, turnOn, turnOff, setOrder, orderOf}
-use Rattle.manual.specs.Step.{Outcome, ended, moved, settle, given, did, step, innerStep, stepOf}
+use Rattle.manual.specs.TheMachine.{sizeAllowed, statusAllowed, binaryOverflow, testFalse, decimalOverflow, equal, low, high, isOn, turnOn, turnOff, setOrder, orderOf}
+use Rattle.manual.specs.Formats.{formOf, namedOf, firstBase, widthOf, allowed, reach, reachRight}
+use Rattle.manual.specs.Values.{value, digitsOf, allDigits, cut, overflows, leftMinus, negative, signOrder, cutTo}
+use Rattle.manual.specs.Decode.{numberAt, instructionOf, withQ, fetchNamed, fetchOpcode, fetch}
+use Rattle.manual.specs.Zoned.{l1, l2, zonedReach, putDigits, putZoned, zonedStatus, putResult, zaz, combine}
+use Rattle.manual.specs.Edit.{takesDigit, count20, sourceReach, putEdited, ed, halfMoved, mvx, endsScan, scan, itc}
+use Rattle.manual.specs.Logical.{reachBoth, copy, mvc, clc, Column, added, subtracted, columns, fresh, onward, sumStatus, differenceStatus, alc, slc}
+use Rattle.manual.specs.Registers.{isStatus, registerNamed, loadedStatus, store, load, sumColumns, difference, differenceColumns, add, subtract}
+use Rattle.manual.specs.Immediate.{tbn, tbf, sbn, sbf, mvi, cli, sli}
+use Rattle.manual.specs.Branches.{taken, offIfPicked, afterTest, branch, jump, loadAddress, call}
+use Rattle.manual.specs.Step.{Outcome, ended, moved, settle, given, did, exec, based, addressed, fields, perform, follow, step, innerStep, stepOf}
 use Rattle.manual.specs.Run.{RanOutcome, ran, moreOf, more, turnsOf, runOf}
 use Rattle.manual.proofs.Runs.{run-by}
 
@@ -55,6 +77,14 @@ BoundedAnswer a = (answerTold a 0 .q < 256) × (answerTold a 0 .r < 256)
 abbrev pub BoundedOut : Out → Type 0
 BoundedOut (stop x) = BoundedStop x
 BoundedOut (go i x) = (i < 65536) × (x < 64)
+
+-- the numbers of an instruction's fields
+pub record BoundedFields (f : Fields) : Type 0 where
+  pub q : f .q < 256
+  pub r : f .r < 256
+  pub a1 : f .a1 < 65536
+  pub a2 : f .a2 < 65536
+  pub next : f .next < 65536
 
 -- from numbers below their limits, the program writes numbers below their limits and gives what P says
 pub data Keeps {A : Type 0} (P : A → Type 0) : Prog A → Type 0 where
@@ -131,3 +161,176 @@ module _ (m : Machine) (s : List ℕ) where
 
   pub run-length-keeps : (b : ℕ) → length (runOf m s b .storage) ≡ length s
   run-length-keeps b = run-by m s (λ o. length (o .storage) ≡ length s) b (turns-length-keeps b) (λ x. refl)
+
+-- ---- one program's bounds
+
+-- a list whose elements are below b, with one replaced
+set-below : (b : ℕ) (l : List ℕ) (i v : ℕ) → v < b → ((j : ℕ) → getD l j 0 < b) → (j : ℕ) → getD (set l i v) j 0 < b
+set-below b [] i v h hs j = hs j
+set-below b (x ∷ l) zero v h hs zero = h
+set-below b (x ∷ l) zero v h hs (suc j) = hs (suc j)
+set-below b (x ∷ l) (suc i) v h hs zero = hs zero
+set-below b (x ∷ l) (suc i) v h hs (suc j) = set-below b l i v h (λ k. hs (suc k)) j
+
+-- a list with one more in front
+cons-below : (b x : ℕ) (l : List ℕ) → x < b → ((j : ℕ) → getD l j 0 < b) → (j : ℕ) → getD (x ∷ l) j 0 < b
+cons-below b x l h hs zero = h
+cons-below b x l h hs (suc j) = hs j
+
+look-below : (l : Place) (σ : State) → Bounded (σ .machine) (σ .bytes) → look l σ < limit l
+look-below (mem a) σ b = b .bytes a
+look-below (reg Arr) σ b = b .arr
+look-below (reg Xr1) σ b = b .xr1
+look-below (reg Xr2) σ b = b .xr2
+look-below (reg (Work i)) σ b = b .wr i
+
+put-keeps : (l : Place) (v : ℕ) (σ : State) → v < limit l → Bounded (σ .machine) (σ .bytes) → Bounded (put l v σ .machine) (put l v σ .bytes)
+put-keeps (mem a) v σ h b =
+    record { iar = b .iar; arr = b .arr; xr1 = b .xr1; xr2 = b .xr2; wr = b .wr; four = b .four; status = b .status; bytes = set-below 256 (σ .bytes) a v h (b .bytes) }
+put-keeps (reg Arr) v σ h b =
+    record { iar = b .iar; arr = h; xr1 = b .xr1; xr2 = b .xr2; wr = b .wr; four = b .four; status = b .status; bytes = b .bytes }
+put-keeps (reg Xr1) v σ h b =
+    record { iar = b .iar; arr = b .arr; xr1 = h; xr2 = b .xr2; wr = b .wr; four = b .four; status = b .status; bytes = b .bytes }
+put-keeps (reg Xr2) v σ h b =
+    record { iar = b .iar; arr = b .arr; xr1 = b .xr1; xr2 = h; wr = b .wr; four = b .four; status = b .status; bytes = b .bytes }
+put-keeps (reg (Work i)) v σ h b =
+    record {
+      iar = b .iar; arr = b .arr; xr1 = b .xr1; xr2 = b .xr2; status = b .status; bytes = b .bytes;
+      wr = set-below 65536 (σ .machine .wr) i v h (b .wr);
+      four = length-set (σ .machine .wr) i v ∙ b .four;
+    }
+
+module _ {A : Type 0} {P : A → Type 0} where
+  -- a program that keeps bounds leaves numbers below their limits and gives what P says
+  pub keeps : {p : Prog A} → Keeps P p → (σ : State) → Bounded (σ .machine) (σ .bytes) → Bounded (fin p σ .machine) (fin p σ .bytes) × P (val p σ)
+  unfolding fin val
+  keeps (giving h) σ b = (b, h)
+  keeps (reading {l = l} h) σ b = keeps (h (look l σ) (look-below l σ b)) σ b
+  keeps (writing {l = l} {v = v} h t) σ b = keeps t (put l v σ) (put-keeps l v σ h b)
+
+  -- one program, and then another of what it gave
+  pub keeps-bind : {B : Type 0} {Q : B → Type 0} {p : Prog B} {f : B → Prog A} → Keeps Q p → ((x : B) → Q x → Keeps P (f x)) → Keeps P (p >>= f)
+  unfolding _>>=_
+  keeps-bind (giving h) t = t _ h
+  keeps-bind (reading h) t = reading (λ v hv. keeps-bind (h v hv) t)
+  keeps-bind (writing h k) t = writing h (keeps-bind k t)
+
+  pub keeps-cond : (b : Bool) {p q : Prog A} → Keeps P p → Keeps P q → Keeps P (cond b p q)
+  keeps-cond true h k = h
+  keeps-cond false h k = k
+
+-- ---- what stands in the way carries no byte
+
+abbrev BoundedWay : Way → Type 0
+BoundedWay Clear = Unit
+BoundedWay (Barred x) = BoundedStop x
+
+pick : {A : Type 0} (P : A → Type 0) (b : Bool) (x y : A) → P x → P y → P (cond b x y)
+pick P true x y h k = h
+pick P false x y h k = k
+
+plain-outside : BoundedStop OperandOutside
+plain-outside = omega arith
+
+plain-digit : BoundedStop DigitRefused
+plain-digit = omega arith
+
+way-reach : (size n a : ℕ) → BoundedWay (reach size n a)
+unfolding reach
+way-reach size n a = pick BoundedWay (ltb a size && leb n (a + 1)) Clear (Barred OperandOutside) tt plain-outside
+
+way-reachRight : (size n a : ℕ) → BoundedWay (reachRight size n a)
+unfolding reachRight
+way-reachRight size n a = pick BoundedWay (leb (a + n) size) Clear (Barred OperandOutside) tt plain-outside
+
+way-source : (size n a : ℕ) → BoundedWay (sourceReach size n a)
+unfolding sourceReach
+way-source size n a = pick BoundedWay (eqb n 0) Clear (reach size n a) tt (way-reach size n a)
+
+way-digits : (bs : List ℕ) → BoundedWay (digitsOf bs)
+unfolding digitsOf
+way-digits bs = pick BoundedWay (allDigits bs) Clear (Barred DigitRefused) tt plain-digit
+
+way-both : (v w : Way) → BoundedWay v → BoundedWay w → BoundedWay (andThen v w)
+unfolding andThen
+way-both Clear w h k = k
+way-both (Barred x) w h k = h
+
+keeps-unless : (w : Way) {p : Prog Out} → BoundedWay w → Keeps BoundedOut p → Keeps BoundedOut (unless w p)
+unfolding unless
+keeps-unless Clear h k = k
+keeps-unless (Barred x) h k = giving h
+
+-- ---- the status stays below 64
+
+below : (n : ℕ) (b : Bool) (x y : ℕ) → x < n → y < n → cond b x y < n
+below n b x y h k = pick (λ (z : ℕ). z < n) b x y h k
+
+-- one of equal, low and high
+one-below : (a b : Bool) (x y z : ℕ) → x < 8 → y < 8 → z < 8 → cond a x (cond b y z) < 8
+one-below a b x y z h j k = below 8 a x (cond b y z) h (below 8 b y z j k)
+
+order-below : (o x : ℕ) → o < 8 → x < 64 → setOrder o x < 64
+unfolding setOrder
+order-below o x h k = omega arith
+
+orderOf-below : (x y : ℕ) → orderOf x y < 8
+unfolding orderOf
+orderOf-below x y = one-below (eqb x y) (ltb x y) equal low high (omega arith) (omega arith) (omega arith)
+
+sign-below : (x : ℤ) → signOrder x < 8
+unfolding signOrder
+sign-below x = one-below (eqb (natAbs x) 0) (negative x) equal low high (omega arith) (omega arith) (omega arith)
+
+on-below : (bit x : ℕ) → x < 64 → ((x / bit % 2 ≡ 1 → ⊥) → x + bit < 64) → turnOn bit x < 64
+unfolding turnOn
+on-below bit x h k = on (isOn bit x) refl
+  where
+    on : (b : Bool) → isOn bit x ≡ b → cond b x (x + bit) < 64
+    on true e = h
+    on false e = k (eqb-false (x / bit % 2) 1 e)
+
+off-below : (bit x : ℕ) → x < 64 → turnOff bit x < 64
+unfolding turnOff
+off-below bit x h = below 64 (isOn bit x) (x - bit) x (omega arith) h
+
+binary-below : (x : ℕ) → x < 64 → turnOn binaryOverflow x < 64
+binary-below x h = on-below 32 x h (λ n. omega arith)
+
+test-below : (x : ℕ) → x < 64 → turnOn testFalse x < 64
+test-below x h = on-below 16 x h (λ n. omega arith)
+
+decimal-below : (x : ℕ) → x < 64 → turnOn decimalOverflow x < 64
+decimal-below x h = on-below 8 x h (λ n. omega arith)
+
+sum-below : (x : ℕ) (c : Columns) → x < 64 → sumStatus x c < 64
+unfolding sumStatus
+sum-below x c h =
+    order-below (cond (c .clear) equal (cond (eqb (c .over) 0) low high)) (cond (eqb (c .over) 0) (turnOff binaryOverflow x) (turnOn binaryOverflow x))
+      (one-below (c .clear) (eqb (c .over) 0) equal low high (omega arith) (omega arith) (omega arith))
+      (below 64 (eqb (c .over) 0) (turnOff binaryOverflow x) (turnOn binaryOverflow x) (off-below binaryOverflow x h) (binary-below x h))
+
+difference-below : (x : ℕ) (c : Columns) → x < 64 → differenceStatus x c < 64
+unfolding differenceStatus
+difference-below x c h =
+    order-below (cond (c .clear) equal (cond (eqb (c .over) 0) high low)) x
+      (one-below (c .clear) (eqb (c .over) 0) equal high low (omega arith) (omega arith) (omega arith)) h
+
+zoned-below : (n x : ℕ) (z : ℤ) → x < 64 → zonedStatus n x z < 64
+unfolding zonedStatus
+zoned-below n x z h =
+    order-below (signOrder (cutTo n z)) (cond (overflows n z) (turnOn decimalOverflow x) x) (sign-below (cutTo n z))
+      (below 64 (overflows n z) (turnOn decimalOverflow x) x (decimal-below x h) h)
+
+loaded-below : (b : ℕ) → loadedStatus b < 64
+unfolding loadedStatus
+loaded-below b =
+    order-below (cond (isOn equal b) equal (cond (isOn low b) low high)) (b % 64)
+      (one-below (isOn equal b) (isOn low b) equal low high (omega arith) (omega arith) (omega arith)) (omega arith)
+
+picked-below : (bit q x : ℕ) → x < 64 → offIfPicked bit q x < 64
+picked-below bit q x h = below 64 (isOn bit q) (turnOff bit x) x (off-below bit x h) h
+
+after-below : (q x : ℕ) → x < 64 → afterTest q x < 64
+unfolding afterTest
+after-below q x h = picked-below testFalse q (offIfPicked decimalOverflow q x) (picked-below decimalOverflow q x h)
