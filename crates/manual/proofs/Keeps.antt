@@ -6,8 +6,8 @@ use mathlib.Core.List.{List, [], _∷_}
 use Prim.Native.Nat.{ℕ, zero, suc, _+_, _-_, _*_, _/_, _%_, _≤_, _<_}
 use native.Mathlib.Omega.{arith}
 use native.Mathlib.Nat.{lt-of-le-of-lt}
-use lib.ListN.{length, getD, set, length-set}
-use lib.Dec.{eqb, ltb, leb}
+use lib.ListN.{length, getD, set, drop, length-set}
+use lib.Dec.{eqb, ltb, leb, lit<}
 use lib.IntN.{ℤ, natAbs, _+ℤ_, _-ℤ_}
 use lib.Bits.{bitAnd, bitOr, or-lt, and-le-l}
 use borrow.Author.Tests.{ltb-true, lt-ltb, eqb-true, eqb-false}
@@ -45,7 +45,7 @@ use Rattle.manual.specs.Zoned.{l1, l2, zonedReach, putDigits, putZoned, 
 use Rattle.manual.specs.Edit.{takesDigit, count20, sourceReach, putEdited, ed, halfMoved, mvx, endsScan, scan, itc}
 use Rattle.manual.specs.Logical.{reachBoth, copy, mvc, clc, Column, added, subtracted, columns, fresh, onward, sumStatus, differenceStatus, alc, slc}
 use Rattle.manual.specs.Registers.{isStatus, registerNamed, loadedStatus, store, load, sumColumns, difference, differenceColumns, add, subtract}
-use Rattle.manual.specs.Immediate.{tbn, tbf, sbn, sbf, mvi, cli, sli}
+use Rattle.manual.specs.Immediate.{tested, changed, tbn, tbf, sbn, sbf, mvi, cli, sli}
 use Rattle.manual.specs.Branches.{taken, offIfPicked, afterTest, branch, jump, loadAddress, call}
 use Rattle.manual.specs.Step.{Outcome, ended, moved, settle, given, did, exec, based, addressed, fields, perform, follow, step, innerStep, stepOf}
 use Rattle.manual.specs.Run.{RanOutcome, ran, moreOf, more, turnsOf, runOf}
@@ -334,3 +334,271 @@ picked-below bit q x h = below 64 (isOn bit q) (turnOff bit x) x (off-below bit 
 after-below : (q x : ℕ) → x < 64 → afterTest q x < 64
 unfolding afterTest
 after-below q x h = picked-below testFalse q (offIfPicked decimalOverflow q x) (picked-below decimalOverflow q x h)
+
+-- ---- the parts of the rules
+
+abbrev Bytes : List ℕ → Type 0
+Bytes vs = (i : ℕ) → getD vs i 0 < 256
+
+abbrev Any : {A : Type 0} → A → Type 0
+Any x = Unit
+
+no-bytes : Bytes []
+no-bytes i = omega arith
+
+keeps-rightward : (n a : ℕ) → Keeps Bytes (rightward n a)
+unfolding rightward
+keeps-rightward zero a = giving no-bytes
+keeps-rightward (suc n) a = reading λ v h. keeps-bind (keeps-rightward n (a + 1)) λ vs hs. giving (cons-below 256 v vs h hs)
+
+keeps-leftward : (n a : ℕ) → Keeps Bytes (leftward n a)
+unfolding leftward
+keeps-leftward zero a = giving no-bytes
+keeps-leftward (suc n) a = reading λ v h. keeps-bind (keeps-leftward n (a - 1)) λ vs hs. giving (cons-below 256 v vs h hs)
+
+keeps-copy : (n a b : ℕ) → Keeps Any (copy n a b)
+unfolding copy
+keeps-copy zero a b = giving tt
+keeps-copy (suc n) a b = reading λ v h. writing h (keeps-copy n (a - 1) (b - 1))
+
+keeps-columns : (column : ℕ → ℕ → ℕ → Column) → ((x y c : ℕ) → column x y c .byte < 256) → (n a b : ℕ) (c : Columns) → Keeps Any (columns column n a b c)
+unfolding columns
+keeps-columns column h zero a b c = giving tt
+keeps-columns column h (suc n) a b c =
+    reading λ x hx. reading λ y hy. writing (h x y (c .over)) (keeps-columns column h n (a - 1) (b - 1) (onward c (column x y (c .over))))
+
+digit-byte : (m : ℕ) → 0xF0 + m % 10 < 256
+digit-byte m = omega arith
+
+half-byte : (y : ℕ) → 0xF0 + y % 16 < 256
+half-byte y = omega arith
+
+sign-byte : (sign : Bool) (m : ℕ) → cond sign 0xD0 0xF0 + m % 10 < 256
+sign-byte true m = omega arith
+sign-byte false m = omega arith
+
+keeps-digits : (n a m : ℕ) → Keeps Any (putDigits n a m)
+unfolding putDigits
+keeps-digits zero a m = giving tt
+keeps-digits (suc n) a m = writing (digit-byte m) (keeps-digits n (a - 1) (m / 10))
+
+keeps-zoned : (n a : ℕ) (sign : Bool) (m : ℕ) → Keeps Any (putZoned n a sign m)
+unfolding putZoned
+keeps-zoned zero a sign m = giving tt
+keeps-zoned (suc n) a sign m = writing (sign-byte sign m) (keeps-digits n (a - 1) (m / 10))
+
+keeps-edited : (ps ys : List ℕ) (a : ℕ) → Keeps Any (putEdited ps ys a)
+unfolding putEdited
+keeps-edited [] ys a = giving tt
+keeps-edited (p ∷ ps) ys a = keeps-cond (takesDigit p) (writing (half-byte (getD ys 0 0)) (keeps-edited ps (drop 1 ys) (a - 1))) (keeps-edited ps ys (a - 1))
+
+keeps-scan : (n a v : ℕ) → v < 256 → Keeps Any (scan n a v)
+unfolding scan
+keeps-scan zero a v h = giving tt
+keeps-scan (suc n) a v h = reading λ b hb. keeps-cond (endsScan b) (giving tt) (writing h (keeps-scan n (a + 1) v h))
+
+half-below : (q x y : ℕ) → x < 256 → y < 256 → halfMoved q x y < 256
+unfolding halfMoved
+half-below q x y h k =
+    below 256 (eqb q 0x00) _ _ (omega arith) (below 256 (eqb q 0x01) _ _ (omega arith) (below 256 (eqb q 0x02) _ _ (omega arith) (omega arith)))
+
+added-below : (x y c : ℕ) → added x y c .byte < 256
+added-below x y c = omega arith
+
+subtracted-below : (x y c : ℕ) → subtracted x y c .byte < 256
+subtracted-below x y c = omega arith
+
+word-below : (n : ℕ) → n % 65536 < 65536
+word-below n = omega arith
+
+pair-below : (left right : ℕ) → left < 256 → right < 256 → left * 256 + right < 65536
+pair-below left right hl hr = omega arith
+
+left-byte : (v : ℕ) → v < 65536 → v / 256 < 256
+left-byte v h = omega arith
+
+right-byte : (v : ℕ) → v % 256 < 256
+right-byte v = omega arith
+
+status-byte : (x : ℕ) → x < 64 → x < 256
+status-byte x h = omega arith
+
+going : {i x : ℕ} → i < 65536 → x < 64 → Keeps BoundedOut (ret (go i x))
+going {i} {x} h k = giving {x = go i x} (h, k)
+
+-- ---- the operations
+
+module _ (f : Fields) (g : Given) (b : BoundedFields f) (h : g .status < 64) where
+  -- on to the next instruction with the status as it was
+  goes : Keeps BoundedOut (ret (go (f .next) (g .status)))
+  goes = going (b .next) h
+
+  way-zoned : BoundedWay (zonedReach f (g .size))
+  way-zoned = way-both (reach (g .size) (l1 (f .q)) (f .a1)) (reach (g .size) (l2 (f .q)) (f .a2)) (way-reach _ _ _) (way-reach _ _ _)
+
+  way-fields : BoundedWay (reachBoth f (g .size))
+  way-fields = way-both (reach (g .size) (f .q + 1) (f .a1)) (reach (g .size) (f .q + 1) (f .a2)) (way-reach _ _ _) (way-reach _ _ _)
+
+  keeps-result : (x : ℤ) → Keeps BoundedOut (putResult f x g)
+  unfolding putResult
+  keeps-result x = keeps-bind (keeps-zoned _ _ _ _) λ u t. going (b .next) (zoned-below _ (g .status) x h)
+
+  keeps-zaz : Keeps BoundedOut (zaz f g)
+  unfolding zaz
+  keeps-zaz = keeps-unless _ way-zoned (keeps-bind (keeps-leftward _ _) λ ys hs. keeps-unless _ (way-digits ys) (keeps-result (value ys)))
+
+  keeps-combine : (op : ℤ → ℤ → ℤ) → Keeps BoundedOut (combine op f g)
+  unfolding combine
+  keeps-combine op =
+      keeps-unless _ way-zoned
+        (keeps-bind (keeps-leftward _ _) λ ys hy. keeps-bind (keeps-leftward _ _) λ xs hx.
+        keeps-unless _ (way-both (digitsOf ys) (digitsOf xs) (way-digits ys) (way-digits xs)) (keeps-result (op (value xs) (value ys))))
+
+  keeps-mvx : Keeps BoundedOut (mvx f g)
+  unfolding mvx
+  keeps-mvx =
+      keeps-unless _ (way-both (reach (g .size) 1 (f .a1)) (reach (g .size) 1 (f .a2)) (way-reach _ _ _) (way-reach _ _ _))
+        (reading λ y hy. reading λ x hx. writing (half-below (f .q) x y hx hy) goes)
+
+  keeps-ed : Keeps BoundedOut (ed f g)
+  unfolding ed
+  keeps-ed =
+      keeps-unless _ (way-reach _ _ _)
+        (keeps-bind (keeps-leftward _ _) λ ps hp. keeps-unless _ (way-source (g .size) (count20 ps) (f .a2))
+        (keeps-bind (keeps-leftward _ _) λ ys hy. keeps-unless _ (way-digits ys)
+        (keeps-bind (keeps-edited ps ys (f .a1)) λ u t. going (b .next) (order-below (signOrder (value ys)) (g .status) (sign-below (value ys)) h))))
+
+  keeps-itc : Keeps BoundedOut (itc f g)
+  unfolding itc
+  keeps-itc =
+      keeps-unless _ (way-both (reachRight (g .size) (f .q + 1) (f .a1)) (reach (g .size) 1 (f .a2)) (way-reachRight _ _ _) (way-reach _ _ _))
+        (reading λ v hv. keeps-bind (keeps-scan _ _ v hv) λ end t. writing (word-below end) goes)
+
+  keeps-mvc : Keeps BoundedOut (mvc f g)
+  unfolding mvc
+  keeps-mvc = keeps-unless _ way-fields (keeps-bind (keeps-copy _ _ _) λ u t. goes)
+
+  keeps-clc : Keeps BoundedOut (clc f g)
+  unfolding clc
+  keeps-clc =
+      keeps-unless _ way-fields
+        (keeps-bind (keeps-leftward _ _) λ xs hx. keeps-bind (keeps-leftward _ _) λ ys hy.
+        going (b .next) (order-below _ (g .status) (orderOf-below _ _) h))
+
+  keeps-alc : Keeps BoundedOut (alc f g)
+  unfolding alc
+  keeps-alc = keeps-unless _ way-fields (keeps-bind (keeps-columns added added-below _ _ _ _) λ c t. going (b .next) (sum-below (g .status) c h))
+
+  keeps-slc : Keeps BoundedOut (slc f g)
+  unfolding slc
+  keeps-slc = keeps-unless _ way-fields (keeps-bind (keeps-columns subtracted subtracted-below _ _ _ _) λ c t. going (b .next) (difference-below (g .status) c h))
+
+  keeps-store : Keeps BoundedOut (store f g)
+  unfolding store
+  keeps-store =
+      keeps-cond (isStatus (f .q))
+        (keeps-unless _ (way-reach _ _ _) (writing (status-byte (g .status) h) (writing (lit< tt) goes)))
+        (reading λ v hv. keeps-unless _ (way-reach _ _ _) (writing (right-byte v) (writing (left-byte v hv) goes)))
+
+  keeps-load : Keeps BoundedOut (load f g)
+  unfolding load
+  keeps-load =
+      keeps-unless _ (way-reach _ _ _)
+        (reading λ right hr. reading λ left hl.
+        keeps-cond (isStatus (f .q)) (going (b .next) (loaded-below right)) (writing (pair-below left right hl hr) goes))
+
+  keeps-add : Keeps BoundedOut (add f g)
+  unfolding add
+  keeps-add =
+      reading λ v hv. keeps-unless _ (way-reach _ _ _)
+        (reading λ right hr. reading λ left hl. writing (word-below _) (going (b .next) (sum-below (g .status) _ h)))
+
+  keeps-subtract : Keeps BoundedOut (subtract f g)
+  unfolding subtract
+  keeps-subtract =
+      reading λ v hv. keeps-unless _ (way-reach _ _ _)
+        (reading λ right hr. reading λ left hl. writing (word-below _) (going (b .next) (difference-below (g .status) _ h)))
+
+  -- the tests: each status is below 64
+  keeps-tested : (status : ℕ → ℕ) → ((x : ℕ) → status x < 64) → Keeps BoundedOut (tested status f g)
+  keeps-tested status k = keeps-unless _ (way-reach _ _ _) (reading λ x hx. going (b .next) (k x))
+
+  keeps-tbn : Keeps BoundedOut (tbn f g)
+  unfolding tbn
+  keeps-tbn = keeps-tested _ (λ x. below 64 (eqb (bitAnd x (f .q)) (f .q)) (g .status) (turnOn testFalse (g .status)) h (test-below (g .status) h))
+
+  keeps-tbf : Keeps BoundedOut (tbf f g)
+  unfolding tbf
+  keeps-tbf = keeps-tested _ (λ x. below 64 (eqb (bitAnd x (f .q)) 0) (g .status) (turnOn testFalse (g .status)) h (test-below (g .status) h))
+
+  keeps-cli : Keeps BoundedOut (cli f g)
+  unfolding cli
+  keeps-cli = keeps-tested _ (λ x. order-below (orderOf x (f .q)) (g .status) (orderOf-below x (f .q)) h)
+
+  -- the changes: each byte is below 256
+  keeps-changed : (byte : ℕ → ℕ) → ((x : ℕ) → x < 256 → byte x < 256) → Keeps BoundedOut (changed byte f g)
+  keeps-changed byte k = keeps-unless _ (way-reach _ _ _) (reading λ x hx. writing (k x hx) goes)
+
+  keeps-sbn : Keeps BoundedOut (sbn f g)
+  unfolding sbn
+  keeps-sbn = keeps-changed _ (λ x hx. or-lt 8 x (f .q) hx (b .q))
+
+  keeps-sbf : Keeps BoundedOut (sbf f g)
+  unfolding sbf
+  keeps-sbf = keeps-changed _ (λ x hx. lt-of-le-of-lt (and-le-l x (255 - f .q)) hx)
+
+  keeps-mvi : Keeps BoundedOut (mvi f g)
+  unfolding mvi
+  keeps-mvi = keeps-unless _ (way-reach _ _ _) (writing (b .q) goes)
+
+  keeps-sli : Keeps BoundedOut (sli f g)
+  unfolding sli
+  keeps-sli =
+      keeps-unless _ (way-reach _ _ _)
+        (reading λ x hx. writing (subtracted-below x (f .q) 0) (going (b .next) (difference-below (g .status) (onward fresh (subtracted x (f .q) 0)) h)))
+
+  keeps-branch : Keeps BoundedOut (branch f g)
+  unfolding branch
+  keeps-branch =
+      let k : afterTest (f .q) (g .status) < 64 = after-below (f .q) (g .status) h in
+      keeps-cond (taken (f .q) (g .status)) (writing (b .next) (going (b .a1) k)) (writing (b .a1) (going (b .next) k))
+
+  keeps-jump : Keeps BoundedOut (jump f g)
+  unfolding jump
+  keeps-jump = going (below 65536 (taken (f .q) (g .status)) (f .a1) (f .next) (b .a1) (b .next)) (after-below (f .q) (g .status) h)
+
+  keeps-loadAddress : Keeps BoundedOut (loadAddress f g)
+  unfolding loadAddress
+  keeps-loadAddress = writing (b .a1) goes
+
+  keeps-call : Keeps BoundedOut (call f g)
+  unfolding call
+  keeps-call = giving {x = stop (Supervisor (f .q) (f .r))} (b .q, b .r)
+
+  pub keeps-exec : (op : Operation) → Keeps BoundedOut (exec op f g)
+  unfolding exec
+  keeps-exec Zaz = keeps-zaz
+  keeps-exec Az = keeps-combine _+ℤ_
+  keeps-exec Sz = keeps-combine _-ℤ_
+  keeps-exec Mvx = keeps-mvx
+  keeps-exec Ed = keeps-ed
+  keeps-exec Itc = keeps-itc
+  keeps-exec Mvc = keeps-mvc
+  keeps-exec Clc = keeps-clc
+  keeps-exec Alc = keeps-alc
+  keeps-exec Slc = keeps-slc
+  keeps-exec St = keeps-store
+  keeps-exec L = keeps-load
+  keeps-exec A = keeps-add
+  keeps-exec S = keeps-subtract
+  keeps-exec Tbn = keeps-tbn
+  keeps-exec Tbf = keeps-tbf
+  keeps-exec Sbn = keeps-sbn
+  keeps-exec Sbf = keeps-sbf
+  keeps-exec Mvi = keeps-mvi
+  keeps-exec Cli = keeps-cli
+  keeps-exec Sli = keeps-sli
+  keeps-exec Bc = keeps-branch
+  keeps-exec Jc = keeps-jump
+  keeps-exec La = keeps-loadAddress
+  keeps-exec Svc = keeps-call
