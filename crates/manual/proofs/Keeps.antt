@@ -67,12 +67,12 @@ abbrev pub limit : Place → ℕ
 limit (mem a) = 256
 limit (reg r) = 65536
 
--- the Q and R bytes that come back with a stop and with an answer
+-- the Q and R bytes that come back with a stop and with an answer, after k steps
 abbrev pub BoundedStop : Stop → Type 0
-BoundedStop x = (stopTold x 0 .q < 256) × (stopTold x 0 .r < 256)
+BoundedStop x = (k : ℕ) → (stopTold x k .q < 256) × (stopTold x k .r < 256)
 
 abbrev pub BoundedAnswer : Answer → Type 0
-BoundedAnswer a = (answerTold a 0 .q < 256) × (answerTold a 0 .r < 256)
+BoundedAnswer a = (k : ℕ) → (answerTold a k .q < 256) × (answerTold a k .r < 256)
 
 abbrev pub BoundedOut : Out → Type 0
 BoundedOut (stop x) = BoundedStop x
@@ -85,6 +85,18 @@ pub record BoundedFields (f : Fields) : Type 0 where
   pub a1 : f .a1 < 65536
   pub a2 : f .a2 < 65536
   pub next : f .next < 65536
+
+-- the numbers of an instruction as its bytes say it
+pub record BoundedInstruction (i : Instruction) : Type 0 where
+  pub q : i .q < 256
+  pub r : i .r < 256
+  pub first : i .first .number < 65536
+  pub second : i .second .number < 65536
+  pub next : i .next < 65536
+
+abbrev pub BoundedDecoded : Decoded → Type 0
+BoundedDecoded (Found i) = BoundedInstruction i
+BoundedDecoded (NotFound x) = BoundedStop x
 
 -- from numbers below their limits, the program writes numbers below their limits and gives what P says
 pub data Keeps {A : Type 0} (P : A → Type 0) : Prog A → Type 0 where
@@ -573,7 +585,7 @@ module _ (f : Fields) (g : Given) (b : BoundedFields f) (h : g .status < 64) whe
 
   keeps-call : Keeps BoundedOut (call f g)
   unfolding call
-  keeps-call = giving {x = stop (Supervisor (f .q) (f .r))} (b .q, b .r)
+  keeps-call = giving {x = stop (Supervisor (f .q) (f .r))} (λ k. (b .q, b .r))
 
   pub keeps-exec : (op : Operation) → Keeps BoundedOut (exec op f g)
   unfolding exec
@@ -602,3 +614,74 @@ module _ (f : Fields) (g : Given) (b : BoundedFields f) (h : g .status < 64) whe
   keeps-exec Jc = keeps-jump
   keeps-exec La = keeps-loadAddress
   keeps-exec Svc = keeps-call
+
+-- ---- the step
+
+number-below : (base : Base) (byte : ℕ → ℕ) → ((k : ℕ) → byte k < 256) → (k : ℕ) → numberAt base byte k < 65536
+number-below Absent byte h k = omega arith
+number-below Direct byte h k = pair-below (byte k) (byte (k + 1)) (h k) (h (k + 1))
+number-below FromXr1 byte h k = omega (arith, h k)
+number-below FromXr2 byte h k = omega (arith, h k)
+number-below FromArr byte h k = omega (arith, h k)
+number-below Forward byte h k = omega (arith, h k)
+number-below Backward byte h k = omega (arith, h k)
+
+instruction-below : (iar : ℕ) (f : Form) (op : Operation) (byte : ℕ → ℕ) → ((k : ℕ) → byte k < 256) → BoundedInstruction (instructionOf iar f op byte)
+unfolding instructionOf
+instruction-below iar f op byte h =
+    record {
+      q = h 1;
+      r = h 2;
+      first = number-below (firstBase (f .group) (f .first) (byte 0 % 16)) byte h 2;
+      second = number-below (f .second) byte h (2 + widthOf (f .first));
+      next = word-below (iar + f .length);
+    }
+
+plain-short : BoundedStop CutShort
+plain-short = omega arith
+
+plain-unknown : BoundedStop OpcodeUnknown
+plain-unknown = omega arith
+
+plain-q : BoundedStop QRefused
+plain-q = omega arith
+
+keeps-named : (size iar opcode : ℕ) (f : Form) (n : Named) → opcode < 256 → Keeps BoundedDecoded (fetchNamed size iar opcode f n)
+keeps-named size iar opcode f Unknown h = giving {x = NotFound OpcodeUnknown} plain-unknown
+keeps-named size iar opcode f (Known op) h =
+    keeps-cond (ltb (size - iar) (f .length)) (giving {x = NotFound CutShort} plain-short)
+      (keeps-bind (keeps-rightward (f .length - 1) (iar + 1)) λ later hs.
+      giving (pick BoundedDecoded (allowed op (getD (opcode ∷ later) 1 0)) (Found (instructionOf iar f op (λ k. getD (opcode ∷ later) k 0))) (NotFound QRefused)
+        (instruction-below iar f op (λ k. getD (opcode ∷ later) k 0) (cons-below 256 opcode later h hs)) plain-q))
+
+keeps-fetch : (size iar : ℕ) → Keeps BoundedDecoded (fetch size iar)
+unfolding fetch
+keeps-fetch size iar =
+    keeps-cond (leb size iar) (giving {x = NotFound CutShort} plain-short)
+      (reading λ opcode h. keeps-named size iar opcode (formOf (opcode / 16)) (namedOf (formOf (opcode / 16) .group) (opcode % 16)) h)
+
+keeps-addressed : (base : Base) (next d : ℕ) (k : ℕ → Prog Out) → d < 65536 → ((a : ℕ) → a < 65536 → Keeps BoundedOut (k a)) → Keeps BoundedOut (addressed base next d k)
+keeps-addressed Absent next d k h t = t 0 (lit< tt)
+keeps-addressed Direct next d k h t = t d h
+keeps-addressed FromXr1 next d k h t = reading λ x hx. t (based x d) (word-below (x + d))
+keeps-addressed FromXr2 next d k h t = reading λ x hx. t (based x d) (word-below (x + d))
+keeps-addressed FromArr next d k h t = reading λ x hx. t (based x d) (word-below (x + d))
+keeps-addressed Forward next d k h t = t (based next d) (word-below (next + d))
+keeps-addressed Backward next d k h t = t (based next (65536 - d)) (word-below (next + (65536 - d)))
+
+module _ (g : Given) (h : g .status < 64) where
+  keeps-perform : (i : Instruction) → BoundedInstruction i → Keeps BoundedOut (perform i g)
+  unfolding perform
+  keeps-perform i b =
+      keeps-addressed (i .first .base) (i .next) (i .first .number) _ (b .first) λ a1 h1.
+      keeps-addressed (i .second .base) (i .next) (i .second .number) _ (b .second) λ a2 h2.
+      keeps-exec (fields i a1 a2) g (record { q = b .q; r = b .r; a1 = h1; a2 = h2; next = b .next }) h (i .operation)
+
+  keeps-follow : (d : Decoded) → BoundedDecoded d → Keeps BoundedOut (follow d g)
+  unfolding follow
+  keeps-follow (Found i) b = keeps-perform i b
+  keeps-follow (NotFound x) b = giving b
+
+  pub keeps-step : Keeps BoundedOut (step g)
+  unfolding step
+  keeps-step = keeps-bind (keeps-fetch (g .size) (g .iar)) keeps-follow
