@@ -37,7 +37,7 @@ use Rattle.manual.specs.declared.Decoded.the-variants.{Found, NotFound}
 use Rattle.manual.specs.Numbers.{stopTold, answerTold, numberOf, told}
 use Rattle.manual.specs.Places.{Place, mem, reg, State, state, look, put}
 use Rattle.manual.specs.Programs.{Prog, ret, rd, wr, val, fin, _>>=_, rightward, leftward, Out, stop, go, Given, Rule, unless, andThen}
-use Rattle.manual.specs.TheMachine.{sizeAllowed, statusAllowed, binaryOverflow, testFalse, decimalOverflow, equal, low, high, isOn, turnOn, turnOff, setOrder, orderOf}
+use Rattle.manual.specs.TheMachine.{sizeAllowed, budgetAllowed, statusAllowed, binaryOverflow, testFalse, decimalOverflow, equal, low, high, isOn, turnOn, turnOff, setOrder, orderOf}
 use Rattle.manual.specs.Formats.{formOf, namedOf, firstBase, widthOf, allowed, reach, reachRight}
 use Rattle.manual.specs.Values.{value, digitsOf, allDigits, cut, overflows, leftMinus, negative, signOrder, cutTo}
 use Rattle.manual.specs.Decode.{numberAt, instructionOf, withQ, fetchNamed, fetchOpcode, fetch}
@@ -48,8 +48,8 @@ use Rattle.manual.specs.Registers.{isStatus, registerNamed, loadedStatus
 use Rattle.manual.specs.Immediate.{tested, changed, tbn, tbf, sbn, sbf, mvi, cli, sli}
 use Rattle.manual.specs.Branches.{taken, offIfPicked, afterTest, branch, jump, loadAddress, call}
 use Rattle.manual.specs.Step.{Outcome, ended, moved, settle, given, did, exec, based, addressed, fields, perform, follow, step, innerStep, stepOf}
-use Rattle.manual.specs.Run.{RanOutcome, ran, moreOf, more, turnsOf, runOf}
-use Rattle.manual.proofs.Runs.{run-by}
+use Rattle.manual.specs.Run.{RanOutcome, ran, countAfter, counted, moreOf, more, turnsOf, runOf}
+use Rattle.manual.proofs.Runs.{addSteps, Entered, not-refused, not-stopped, more-steps, one-more, runs-on, budget-below, run-entered, run-by}
 
 -- registers below 65,536, the work registers four, the status below 64, bytes below 256
 pub record Bounded (m : Machine) (s : List ℕ) : Type 0 where
@@ -97,6 +97,11 @@ pub record BoundedInstruction (i : Instruction) : Type 0 where
 abbrev pub BoundedDecoded : Decoded → Type 0
 BoundedDecoded (Found i) = BoundedInstruction i
 BoundedDecoded (NotFound x) = BoundedStop x
+
+-- the numbers that a step and a run leave and answer with
+pub record BoundedOutcome (m : Machine) (a : Answer) (s : List ℕ) : Type 0 where
+  pub left : Bounded m s
+  pub answer : BoundedAnswer a
 
 -- from numbers below their limits, the program writes numbers below their limits and gives what P says
 pub data Keeps {A : Type 0} (P : A → Type 0) : Prog A → Type 0 where
@@ -685,3 +690,104 @@ module _ (g : Given) (h : g .status < 64) where
   pub keeps-step : Keeps BoundedOut (step g)
   unfolding step
   keeps-step = keeps-bind (keeps-fetch (g .size) (g .iar)) keeps-follow
+
+-- ---- what a step and a run leave
+
+refusal-below : (x : Refusal) → BoundedAnswer (Refused x)
+refusal-below SizeRefused = omega arith
+refusal-below BudgetRefused = omega arith
+refusal-below StatusRefused = omega arith
+
+settle-bounds : (m : Machine) (s : List ℕ) (o : Out) (τ : State) → Bounded m s → BoundedOut o → Bounded (τ .machine) (τ .bytes)
+    → BoundedOutcome (settle m s o τ .gave .machine) (settle m s o τ .gave .answer) (settle m s o τ .storage)
+settle-bounds m s (stop x) τ b h k = record { left = b; answer = h }
+settle-bounds m s (go i x) τ b h k =
+    record {
+      left = record { iar = h .0; arr = k .arr; xr1 = k .xr1; xr2 = k .xr2; wr = k .wr; four = k .four; status = h .1; bytes = k .bytes };
+      answer = λ j. omega arith;
+    }
+
+module _ (m : Machine) (s : List ℕ) (b : Bounded m s) where
+  inner-outcome : BoundedOutcome (innerStep m s .gave .machine) (innerStep m s .gave .answer) (innerStep m s .storage)
+  unfolding innerStep did
+  inner-outcome =
+      let k = keeps (keeps-step (given m s) (b .status)) (state m s) b in
+      settle-bounds m s (val (step (given m s)) (state m s)) (fin (step (given m s)) (state m s)) b (k .1) (k .0)
+
+  step-outcome : BoundedOutcome (stepOf m s .gave .machine) (stepOf m s .gave .answer) (stepOf m s .storage)
+  step-outcome =
+      step-by m s (λ o. BoundedOutcome (o .gave .machine) (o .gave .answer) (o .storage)) inner-outcome (λ x. record { left = b; answer = refusal-below x })
+
+more-bounds-of : (o : RanOutcome) (a : Answer) → BoundedOutcome (o .gave .machine) (o .gave .ended .answer) (o .storage)
+    → BoundedOutcome (moreOf a o .gave .machine) (moreOf a o .gave .ended .answer) (moreOf a o .storage)
+more-bounds-of o Executed b = inner-outcome (o .gave .machine) (o .storage) (b .left)
+more-bounds-of o (Refused x) b = b
+more-bounds-of o (Stopped x) b = b
+
+module _ (m : Machine) (s : List ℕ) (b : Bounded m s) where
+  turns-outcome : (k : ℕ) → BoundedOutcome (turnsOf m s k .gave .machine) (turnsOf m s k .gave .ended .answer) (turnsOf m s k .storage)
+  unfolding turnsOf more
+  turns-outcome zero = record { left = b; answer = λ j. omega arith }
+  turns-outcome (suc k) = more-bounds-of (turnsOf m s k) (turnsOf m s k .gave .ended .answer) (turns-outcome k)
+
+  run-outcome : (k : ℕ) → BoundedOutcome (runOf m s k .gave .machine) (runOf m s k .gave .ended .answer) (runOf m s k .storage)
+  run-outcome k =
+      run-by m s (λ o. BoundedOutcome (o .gave .machine) (o .gave .ended .answer) (o .storage)) k (turns-outcome k)
+        (λ x. record { left = b; answer = refusal-below x })
+
+  -- bytes stay below 256, registers below 65,536, the status below 64
+  pub inner-bounds : Bounded (innerStep m s .gave .machine) (innerStep m s .storage)
+  inner-bounds = inner-outcome m s b .left
+
+  pub step-bounds : Bounded (stepOf m s .gave .machine) (stepOf m s .storage)
+  step-bounds = step-outcome m s b .left
+
+  pub turns-bounds : (k : ℕ) → Bounded (turnsOf m s k .gave .machine) (turnsOf m s k .storage)
+  turns-bounds k = turns-outcome k .left
+
+  pub run-bounds : (k : ℕ) → Bounded (runOf m s k .gave .machine) (runOf m s k .storage)
+  run-bounds k = run-outcome k .left
+
+  -- the Q and R bytes that come back are bytes
+  pub inner-bytes : BoundedAnswer (innerStep m s .gave .answer)
+  inner-bytes = inner-outcome m s b .answer
+
+  pub step-bytes : BoundedAnswer (stepOf m s .gave .answer)
+  step-bytes = step-outcome m s b .answer
+
+  pub run-bytes : (k : ℕ) → (told (runOf m s k .gave .ended) .q < 256) × (told (runOf m s k .gave .ended) .r < 256)
+  run-bytes k = run-outcome k .answer (runOf m s k .gave .ended .steps)
+
+-- ---- a run that stops changes nothing beyond what its earlier steps did
+
+module _ (m : Machine) (s : List ℕ) where
+  module _ (j : ℕ) (n : Machine) (l : List ℕ) (at : turnsOf m s j ≡ ran n Executed j l) where
+    stop-stays : (numberOf (innerStep n l .gave .answer) ≡ 0 → ⊥) → turnsOf m s j ≡ ran (innerStep n l .gave .machine) Executed j (innerStep n l .storage)
+    stop-stays h = rw (inner-stop-keeps n l h .0, inner-stop-keeps n l h .1) at
+
+    counted-of : (a : Answer) → innerStep n l .gave .answer ≡ a
+        → turnsOf m s (countAfter j a) ≡ ran (innerStep n l .gave .machine) Executed (countAfter j a) (innerStep n l .storage)
+    counted-of Executed e =
+        one-more m s j ∙ ap more at ∙ more-steps (ran n Executed j l) refl
+        ∙ ap (λ (a : Answer). ran (innerStep n l .gave .machine) a (countAfter j a) (innerStep n l .storage)) e
+    counted-of (Refused x) e = stop-stays (λ z. not-refused x (sym (ap numberOf e) ∙ z))
+    counted-of (Stopped x) e = stop-stays (λ z. not-stopped x (sym (ap numberOf e) ∙ z))
+
+  -- machine and storage are those after as many steps as it counted
+  abbrev pub AsCounted : RanOutcome → Type 0
+  AsCounted o = turnsOf m s (o .gave .ended .steps) ≡ ran (o .gave .machine) Executed (o .gave .ended .steps) (o .storage)
+
+  as-counted-of : (o : RanOutcome) (a : Answer) → AsCounted o → AsCounted (moreOf a o)
+  as-counted-of o Executed h =
+      counted-of (o .gave .ended .steps) (o .gave .machine) (o .storage) h (innerStep (o .gave .machine) (o .storage) .gave .answer) refl
+  as-counted-of o (Refused x) h = h
+  as-counted-of o (Stopped x) h = h
+
+  pub turns-as-counted : (k : ℕ) → AsCounted (turnsOf m s k)
+  unfolding turnsOf more
+  turns-as-counted zero = refl
+  turns-as-counted (suc k) = as-counted-of (turnsOf m s k) (turnsOf m s k .gave .ended .answer) (turns-as-counted k)
+
+  pub run-as-counted : (b : ℕ) → AsCounted (runOf m s b)
+  unfolding turnsOf
+  run-as-counted b = run-by m s AsCounted b (turns-as-counted b) (λ x. refl)
