@@ -1,18 +1,16 @@
--- What a step and a run keep: all of it where they stop, the storage's length always, and every number below its limit where it was so before.
--- What carries it: `Keeps`, a predicate on programs that one induction turns into the bounds, and a short lemma for each operation.
+-- What a step and a run keep: all where they stop, the storage's length, every number below its limit. What carries it: `Keeps`, a predicate on programs, by one induction.
 use mathlib.Core.Path.{_≡_, refl, sym, ap, _∙_}
 use mathlib.Core.Bool.{Bool, true, false, cond, _&&_}
 use mathlib.Core.List.{List, [], _∷_}
-use Prim.Native.Nat.{ℕ, zero, suc, _+_, _-_, _*_, _/_, _%_, _≤_, _<_}
+use Prim.Native.Nat.{ℕ, zero, suc, _+_, _-_, _*_, _/_, _%_, _<_}
 use native.Mathlib.Omega.{arith}
 use native.Mathlib.Nat.{lt-of-le-of-lt}
 use lib.ListN.{length, getD, set, drop, length-set}
 use lib.Dec.{eqb, ltb, leb, lit<}
 use lib.IntN.{ℤ, natAbs, _+ℤ_, _-ℤ_}
-use lib.Bits.{bitAnd, bitOr, or-lt, and-le-l}
-use borrow.Author.Tests.{ltb-true, lt-ltb, eqb-true, eqb-false}
+use lib.Bits.{bitAnd, or-lt, and-le-l}
+use borrow.Author.Tests.{lt-ltb, eqb-false}
 use Rattle.manual.specs.declared.Machine.{Machine}
-use Rattle.manual.specs.declared.Register.{Register}
 use Rattle.manual.specs.declared.Register.the-variants.{Arr, Xr1, Xr2, Work}
 use Rattle.manual.specs.declared.Stop.{Stop}
 use Rattle.manual.specs.declared.Stop.the-variants.{CutShort, OpcodeUnknown, QRefused, OperandOutside, DigitRefused, Supervisor}
@@ -37,18 +35,18 @@ use Rattle.manual.specs.declared.Decoded.the-variants.{Found, NotFound}
 use Rattle.manual.specs.Numbers.{stopTold, answerTold, numberOf, told}
 use Rattle.manual.specs.Places.{Place, mem, reg, State, state, look, put}
 use Rattle.manual.specs.Programs.{Prog, ret, rd, wr, val, fin, _>>=_, rightward, leftward, Out, stop, go, Given, Rule, unless, andThen}
-use Rattle.manual.specs.TheMachine.{sizeAllowed, budgetAllowed, statusAllowed, binaryOverflow, testFalse, decimalOverflow, equal, low, high, isOn, turnOn, turnOff, setOrder, orderOf}
+use Rattle.manual.specs.TheMachine.{sizeAllowed, statusAllowed, binaryOverflow, testFalse, decimalOverflow, equal, low, high, isOn, turnOn, turnOff, setOrder, orderOf}
 use Rattle.manual.specs.Formats.{formOf, namedOf, firstBase, widthOf, allowed, reach, reachRight}
-use Rattle.manual.specs.Values.{value, digitsOf, allDigits, cut, overflows, leftMinus, negative, signOrder, cutTo}
-use Rattle.manual.specs.Decode.{numberAt, instructionOf, withQ, fetchNamed, fetchOpcode, fetch}
+use Rattle.manual.specs.Values.{value, digitsOf, allDigits, overflows, negative, signOrder, cutTo}
+use Rattle.manual.specs.Decode.{numberAt, instructionOf, fetchNamed, fetch}
 use Rattle.manual.specs.Zoned.{l1, l2, zonedReach, putDigits, putZoned, zonedStatus, putResult, zaz, combine}
 use Rattle.manual.specs.Edit.{takesDigit, count20, sourceReach, putEdited, ed, halfMoved, mvx, endsScan, scan, itc}
 use Rattle.manual.specs.Logical.{reachBoth, copy, mvc, clc, Column, added, subtracted, columns, fresh, onward, sumStatus, differenceStatus, alc, slc}
-use Rattle.manual.specs.Registers.{isStatus, registerNamed, loadedStatus, store, load, sumColumns, difference, differenceColumns, add, subtract}
+use Rattle.manual.specs.Registers.{isStatus, loadedStatus, store, load, add, subtract}
 use Rattle.manual.specs.Immediate.{tested, changed, tbn, tbf, sbn, sbf, mvi, cli, sli}
 use Rattle.manual.specs.Branches.{taken, offIfPicked, afterTest, branch, jump, loadAddress, call}
-use Rattle.manual.specs.Step.{Outcome, ended, moved, settle, given, did, exec, based, addressed, fields, perform, follow, step, innerStep, stepOf}
-use Rattle.manual.specs.Run.{RanOutcome, ran, countAfter, counted, moreOf, more, turnsOf, runOf}
+use Rattle.manual.specs.Step.{Outcome, ended, settle, given, did, exec, based, addressed, fields, perform, follow, step, innerStep, stepOf}
+use Rattle.manual.specs.Run.{RanOutcome, ran, countAfter, moreOf, more, turnsOf, runOf}
 use Rattle.manual.proofs.Runs.{addSteps, Entered, not-refused, not-stopped, more-steps, one-more, runs-on, budget-below, run-entered, run-by}
 
 -- registers below 65,536, the work registers four, the status below 64, bytes below 256
@@ -67,13 +65,15 @@ abbrev pub limit : Place → ℕ
 limit (mem a) = 256
 limit (reg r) = 65536
 
--- the Q and R bytes that come back with a stop and with an answer, after k steps
+-- the Q and R bytes that come back with a stop, after k steps
 abbrev pub BoundedStop : Stop → Type 0
 BoundedStop x = (k : ℕ) → (stopTold x k .q < 256) × (stopTold x k .r < 256)
 
+-- those that come back with an answer
 abbrev pub BoundedAnswer : Answer → Type 0
 BoundedAnswer a = (k : ℕ) → (answerTold a k .q < 256) × (answerTold a k .r < 256)
 
+-- the address and the status that a rule goes on with
 abbrev pub BoundedOut : Out → Type 0
 BoundedOut (stop x) = BoundedStop x
 BoundedOut (go i x) = (i < 65536) × (x < 64)
@@ -94,6 +94,7 @@ pub record BoundedInstruction (i : Instruction) : Type 0 where
   pub second : i .second .number < 65536
   pub next : i .next < 65536
 
+-- the numbers of what decoding answers
 abbrev pub BoundedDecoded : Decoded → Type 0
 BoundedDecoded (Found i) = BoundedInstruction i
 BoundedDecoded (NotFound x) = BoundedStop x
@@ -102,6 +103,10 @@ BoundedDecoded (NotFound x) = BoundedStop x
 pub record BoundedOutcome (m : Machine) (a : Answer) (s : List ℕ) : Type 0 where
   pub left : Bounded m s
   pub answer : BoundedAnswer a
+
+-- the outcome's machine and storage are those after as many steps as it counts
+abbrev pub AsCounted : Machine → List ℕ → RanOutcome → Type 0
+AsCounted m s o = turnsOf m s (o .gave .ended .steps) ≡ ran (o .gave .machine) Executed (o .gave .ended .steps) (o .storage)
 
 -- from numbers below their limits, the program writes numbers below their limits and gives what P says
 pub data Keeps {A : Type 0} (P : A → Type 0) : Prog A → Type 0 where
@@ -112,12 +117,14 @@ pub data Keeps {A : Type 0} (P : A → Type 0) : Prog A → Type 0 where
 -- ---- a stop keeps all
 
 module _ (m : Machine) (s : List ℕ) where
-  settle-keeps : (o : Out) (τ : State) → (numberOf (settle m s o τ .gave .answer) ≡ 0 → ⊥) → (settle m s o τ .gave .machine ≡ m) × (settle m s o τ .storage ≡ s)
+  settle-keeps : (o : Out) (τ : State) → (numberOf (settle m s o τ .gave .answer) ≡ 0 → ⊥)
+      → (settle m s o τ .gave .machine ≡ m) × (settle m s o τ .storage ≡ s)
   settle-keeps (stop x) τ h = (refl, refl)
   settle-keeps (go i x) τ h = absurd (h refl)
 
   -- any rule that stops leaves machine and storage as they were, IAR included
-  pub did-stop-keeps : (rule : Rule) → (numberOf (did m s rule .gave .answer) ≡ 0 → ⊥) → (did m s rule .gave .machine ≡ m) × (did m s rule .storage ≡ s)
+  pub did-stop-keeps : (rule : Rule) → (numberOf (did m s rule .gave .answer) ≡ 0 → ⊥)
+      → (did m s rule .gave .machine ≡ m) × (did m s rule .storage ≡ s)
   unfolding did
   did-stop-keeps rule h = settle-keeps (val (rule (given m s)) (state m s)) (fin (rule (given m s)) (state m s)) h
 
@@ -212,7 +219,12 @@ put-keeps (reg Xr2) v σ h b =
     record { iar = b .iar; arr = b .arr; xr1 = b .xr1; xr2 = h; wr = b .wr; four = b .four; status = b .status; bytes = b .bytes }
 put-keeps (reg (Work i)) v σ h b =
     record {
-      iar = b .iar; arr = b .arr; xr1 = b .xr1; xr2 = b .xr2; status = b .status; bytes = b .bytes;
+      iar = b .iar;
+      arr = b .arr;
+      xr1 = b .xr1;
+      xr2 = b .xr2;
+      status = b .status;
+      bytes = b .bytes;
       wr = set-below 65536 (σ .machine .wr) i v h (b .wr);
       four = length-set (σ .machine .wr) i v ∙ b .four;
     }
@@ -324,26 +336,26 @@ sum-below : (x : ℕ) (c : Columns) → x < 64 → sumStatus x c < 64
 unfolding sumStatus
 sum-below x c h =
     order-below (cond (c .clear) equal (cond (eqb (c .over) 0) low high)) (cond (eqb (c .over) 0) (turnOff binaryOverflow x) (turnOn binaryOverflow x))
-      (one-below (c .clear) (eqb (c .over) 0) equal low high (omega arith) (omega arith) (omega arith))
-      (below 64 (eqb (c .over) 0) (turnOff binaryOverflow x) (turnOn binaryOverflow x) (off-below binaryOverflow x h) (binary-below x h))
+    (one-below (c .clear) (eqb (c .over) 0) equal low high (omega arith) (omega arith) (omega arith))
+    (below 64 (eqb (c .over) 0) (turnOff binaryOverflow x) (turnOn binaryOverflow x) (off-below binaryOverflow x h) (binary-below x h))
 
 difference-below : (x : ℕ) (c : Columns) → x < 64 → differenceStatus x c < 64
 unfolding differenceStatus
 difference-below x c h =
     order-below (cond (c .clear) equal (cond (eqb (c .over) 0) high low)) x
-      (one-below (c .clear) (eqb (c .over) 0) equal high low (omega arith) (omega arith) (omega arith)) h
+    (one-below (c .clear) (eqb (c .over) 0) equal high low (omega arith) (omega arith) (omega arith)) h
 
 zoned-below : (n x : ℕ) (z : ℤ) → x < 64 → zonedStatus n x z < 64
 unfolding zonedStatus
 zoned-below n x z h =
     order-below (signOrder (cutTo n z)) (cond (overflows n z) (turnOn decimalOverflow x) x) (sign-below (cutTo n z))
-      (below 64 (overflows n z) (turnOn decimalOverflow x) x (decimal-below x h) h)
+    (below 64 (overflows n z) (turnOn decimalOverflow x) x (decimal-below x h) h)
 
 loaded-below : (b : ℕ) → loadedStatus b < 64
 unfolding loadedStatus
 loaded-below b =
     order-below (cond (isOn equal b) equal (cond (isOn low b) low high)) (b % 64)
-      (one-below (isOn equal b) (isOn low b) equal low high (omega arith) (omega arith) (omega arith)) (omega arith)
+    (one-below (isOn equal b) (isOn low b) equal low high (omega arith) (omega arith) (omega arith)) (omega arith)
 
 picked-below : (bit q x : ℕ) → x < 64 → offIfPicked bit q x < 64
 picked-below bit q x h = below 64 (isOn bit q) (turnOff bit x) x (off-below bit x h) h
@@ -378,7 +390,8 @@ unfolding copy
 keeps-copy zero a b = giving tt
 keeps-copy (suc n) a b = reading λ v h. writing h (keeps-copy n (a - 1) (b - 1))
 
-keeps-columns : (column : ℕ → ℕ → ℕ → Column) → ((x y c : ℕ) → column x y c .byte < 256) → (n a b : ℕ) (c : Columns) → Keeps Any (columns column n a b c)
+keeps-columns : (column : ℕ → ℕ → ℕ → Column) → ((x y c : ℕ) → column x y c .byte < 256)
+    → (n a b : ℕ) (c : Columns) → Keeps Any (columns column n a b c)
 unfolding columns
 keeps-columns column h zero a b c = giving tt
 keeps-columns column h (suc n) a b c =
@@ -468,28 +481,28 @@ module _ (f : Fields) (g : Given) (b : BoundedFields f) (h : g .status < 64) whe
   unfolding combine
   keeps-combine op =
       keeps-unless _ way-zoned
-        (keeps-bind (keeps-leftward _ _) λ ys hy. keeps-bind (keeps-leftward _ _) λ xs hx.
-        keeps-unless _ (way-both (digitsOf ys) (digitsOf xs) (way-digits ys) (way-digits xs)) (keeps-result (op (value xs) (value ys))))
+      (keeps-bind (keeps-leftward _ _) λ ys hy. keeps-bind (keeps-leftward _ _) λ xs hx.
+      keeps-unless _ (way-both (digitsOf ys) (digitsOf xs) (way-digits ys) (way-digits xs)) (keeps-result (op (value xs) (value ys))))
 
   keeps-mvx : Keeps BoundedOut (mvx f g)
   unfolding mvx
   keeps-mvx =
       keeps-unless _ (way-both (reach (g .size) 1 (f .a1)) (reach (g .size) 1 (f .a2)) (way-reach _ _ _) (way-reach _ _ _))
-        (reading λ y hy. reading λ x hx. writing (half-below (f .q) x y hx hy) goes)
+      (reading λ y hy. reading λ x hx. writing (half-below (f .q) x y hx hy) goes)
 
   keeps-ed : Keeps BoundedOut (ed f g)
   unfolding ed
   keeps-ed =
       keeps-unless _ (way-reach _ _ _)
-        (keeps-bind (keeps-leftward _ _) λ ps hp. keeps-unless _ (way-source (g .size) (count20 ps) (f .a2))
-        (keeps-bind (keeps-leftward _ _) λ ys hy. keeps-unless _ (way-digits ys)
-        (keeps-bind (keeps-edited ps ys (f .a1)) λ u t. going (b .next) (order-below (signOrder (value ys)) (g .status) (sign-below (value ys)) h))))
+      (keeps-bind (keeps-leftward _ _) λ ps hp. keeps-unless _ (way-source (g .size) (count20 ps) (f .a2))
+      (keeps-bind (keeps-leftward _ _) λ ys hy. keeps-unless _ (way-digits ys)
+      (keeps-bind (keeps-edited ps ys (f .a1)) λ u t. going (b .next) (order-below (signOrder (value ys)) (g .status) (sign-below (value ys)) h))))
 
   keeps-itc : Keeps BoundedOut (itc f g)
   unfolding itc
   keeps-itc =
       keeps-unless _ (way-both (reachRight (g .size) (f .q + 1) (f .a1)) (reach (g .size) 1 (f .a2)) (way-reachRight _ _ _) (way-reach _ _ _))
-        (reading λ v hv. keeps-bind (keeps-scan _ _ v hv) λ end t. writing (word-below end) goes)
+      (reading λ v hv. keeps-bind (keeps-scan _ _ v hv) λ end t. writing (word-below end) goes)
 
   keeps-mvc : Keeps BoundedOut (mvc f g)
   unfolding mvc
@@ -499,8 +512,8 @@ module _ (f : Fields) (g : Given) (b : BoundedFields f) (h : g .status < 64) whe
   unfolding clc
   keeps-clc =
       keeps-unless _ way-fields
-        (keeps-bind (keeps-leftward _ _) λ xs hx. keeps-bind (keeps-leftward _ _) λ ys hy.
-        going (b .next) (order-below _ (g .status) (orderOf-below _ _) h))
+      (keeps-bind (keeps-leftward _ _) λ xs hx. keeps-bind (keeps-leftward _ _) λ ys hy.
+      going (b .next) (order-below _ (g .status) (orderOf-below _ _) h))
 
   keeps-alc : Keeps BoundedOut (alc f g)
   unfolding alc
@@ -514,27 +527,27 @@ module _ (f : Fields) (g : Given) (b : BoundedFields f) (h : g .status < 64) whe
   unfolding store
   keeps-store =
       keeps-cond (isStatus (f .q))
-        (keeps-unless _ (way-reach _ _ _) (writing (status-byte (g .status) h) (writing (lit< tt) goes)))
-        (reading λ v hv. keeps-unless _ (way-reach _ _ _) (writing (right-byte v) (writing (left-byte v hv) goes)))
+      (keeps-unless _ (way-reach _ _ _) (writing (status-byte (g .status) h) (writing (lit< tt) goes)))
+      (reading λ v hv. keeps-unless _ (way-reach _ _ _) (writing (right-byte v) (writing (left-byte v hv) goes)))
 
   keeps-load : Keeps BoundedOut (load f g)
   unfolding load
   keeps-load =
       keeps-unless _ (way-reach _ _ _)
-        (reading λ right hr. reading λ left hl.
-        keeps-cond (isStatus (f .q)) (going (b .next) (loaded-below right)) (writing (pair-below left right hl hr) goes))
+      (reading λ right hr. reading λ left hl.
+      keeps-cond (isStatus (f .q)) (going (b .next) (loaded-below right)) (writing (pair-below left right hl hr) goes))
 
   keeps-add : Keeps BoundedOut (add f g)
   unfolding add
   keeps-add =
       reading λ v hv. keeps-unless _ (way-reach _ _ _)
-        (reading λ right hr. reading λ left hl. writing (word-below _) (going (b .next) (sum-below (g .status) _ h)))
+      (reading λ right hr. reading λ left hl. writing (word-below _) (going (b .next) (sum-below (g .status) _ h)))
 
   keeps-subtract : Keeps BoundedOut (subtract f g)
   unfolding subtract
   keeps-subtract =
       reading λ v hv. keeps-unless _ (way-reach _ _ _)
-        (reading λ right hr. reading λ left hl. writing (word-below _) (going (b .next) (difference-below (g .status) _ h)))
+      (reading λ right hr. reading λ left hl. writing (word-below _) (going (b .next) (difference-below (g .status) _ h)))
 
   -- the tests: each status is below 64
   keeps-tested : (status : ℕ → ℕ) → ((x : ℕ) → status x < 64) → Keeps BoundedOut (tested status f g)
@@ -572,7 +585,7 @@ module _ (f : Fields) (g : Given) (b : BoundedFields f) (h : g .status < 64) whe
   unfolding sli
   keeps-sli =
       keeps-unless _ (way-reach _ _ _)
-        (reading λ x hx. writing (subtracted-below x (f .q) 0) (going (b .next) (difference-below (g .status) (onward fresh (subtracted x (f .q) 0)) h)))
+      (reading λ x hx. writing (subtracted-below x (f .q) 0) (going (b .next) (difference-below (g .status) (onward fresh (subtracted x (f .q) 0)) h)))
 
   keeps-branch : Keeps BoundedOut (branch f g)
   unfolding branch
@@ -655,17 +668,18 @@ keeps-named : (size iar opcode : ℕ) (f : Form) (n : Named) → opcode < 256 �
 keeps-named size iar opcode f Unknown h = giving {x = NotFound OpcodeUnknown} plain-unknown
 keeps-named size iar opcode f (Known op) h =
     keeps-cond (ltb (size - iar) (f .length)) (giving {x = NotFound CutShort} plain-short)
-      (keeps-bind (keeps-rightward (f .length - 1) (iar + 1)) λ later hs.
-      giving (pick BoundedDecoded (allowed op (getD (opcode ∷ later) 1 0)) (Found (instructionOf iar f op (λ k. getD (opcode ∷ later) k 0))) (NotFound QRefused)
-        (instruction-below iar f op (λ k. getD (opcode ∷ later) k 0) (cons-below 256 opcode later h hs)) plain-q))
+    (keeps-bind (keeps-rightward (f .length - 1) (iar + 1)) λ later hs.
+    giving (pick BoundedDecoded (allowed op (getD (opcode ∷ later) 1 0)) (Found (instructionOf iar f op (λ k. getD (opcode ∷ later) k 0))) (NotFound QRefused)
+    (instruction-below iar f op (λ k. getD (opcode ∷ later) k 0) (cons-below 256 opcode later h hs)) plain-q))
 
 keeps-fetch : (size iar : ℕ) → Keeps BoundedDecoded (fetch size iar)
 unfolding fetch
 keeps-fetch size iar =
     keeps-cond (leb size iar) (giving {x = NotFound CutShort} plain-short)
-      (reading λ opcode h. keeps-named size iar opcode (formOf (opcode / 16)) (namedOf (formOf (opcode / 16) .group) (opcode % 16)) h)
+    (reading λ opcode h. keeps-named size iar opcode (formOf (opcode / 16)) (namedOf (formOf (opcode / 16) .group) (opcode % 16)) h)
 
-keeps-addressed : (base : Base) (next d : ℕ) (k : ℕ → Prog Out) → d < 65536 → ((a : ℕ) → a < 65536 → Keeps BoundedOut (k a)) → Keeps BoundedOut (addressed base next d k)
+keeps-addressed : (base : Base) (next d : ℕ) (k : ℕ → Prog Out) → d < 65536
+    → ((a : ℕ) → a < 65536 → Keeps BoundedOut (k a)) → Keeps BoundedOut (addressed base next d k)
 keeps-addressed Absent next d k h t = t 0 (lit< tt)
 keeps-addressed Direct next d k h t = t d h
 keeps-addressed FromXr1 next d k h t = reading λ x hx. t (based x d) (word-below (x + d))
@@ -733,7 +747,7 @@ module _ (m : Machine) (s : List ℕ) (b : Bounded m s) where
   run-outcome : (k : ℕ) → BoundedOutcome (runOf m s k .gave .machine) (runOf m s k .gave .ended .answer) (runOf m s k .storage)
   run-outcome k =
       run-by m s (λ o. BoundedOutcome (o .gave .machine) (o .gave .ended .answer) (o .storage)) k (turns-outcome k)
-        (λ x. record { left = b; answer = refusal-below x })
+      (λ x. record { left = b; answer = refusal-below x })
 
   -- bytes stay below 256, registers below 65,536, the status below 64
   pub inner-bounds : Bounded (innerStep m s .gave .machine) (innerStep m s .storage)
@@ -773,21 +787,38 @@ module _ (m : Machine) (s : List ℕ) where
     counted-of (Refused x) e = stop-stays (λ z. not-refused x (sym (ap numberOf e) ∙ z))
     counted-of (Stopped x) e = stop-stays (λ z. not-stopped x (sym (ap numberOf e) ∙ z))
 
-  -- machine and storage are those after as many steps as it counted
-  abbrev pub AsCounted : RanOutcome → Type 0
-  AsCounted o = turnsOf m s (o .gave .ended .steps) ≡ ran (o .gave .machine) Executed (o .gave .ended .steps) (o .storage)
-
-  as-counted-of : (o : RanOutcome) (a : Answer) → AsCounted o → AsCounted (moreOf a o)
+  as-counted-of : (o : RanOutcome) (a : Answer) → AsCounted m s o → AsCounted m s (moreOf a o)
   as-counted-of o Executed h =
       counted-of (o .gave .ended .steps) (o .gave .machine) (o .storage) h (innerStep (o .gave .machine) (o .storage) .gave .answer) refl
   as-counted-of o (Refused x) h = h
   as-counted-of o (Stopped x) h = h
 
-  pub turns-as-counted : (k : ℕ) → AsCounted (turnsOf m s k)
+  pub turns-as-counted : (k : ℕ) → AsCounted m s (turnsOf m s k)
   unfolding turnsOf more
   turns-as-counted zero = refl
   turns-as-counted (suc k) = as-counted-of (turnsOf m s k) (turnsOf m s k .gave .ended .answer) (turns-as-counted k)
 
-  pub run-as-counted : (b : ℕ) → AsCounted (runOf m s b)
+  pub run-as-counted : (b : ℕ) → AsCounted m s (runOf m s b)
   unfolding turnsOf
-  run-as-counted b = run-by m s AsCounted b (turns-as-counted b) (λ x. refl)
+  run-as-counted b = run-by m s (AsCounted m s) b (turns-as-counted b) (λ x. refl)
+
+-- ---- a run in two calls
+
+entered-again : (m : Machine) (s : List ℕ) → Bounded m s → (j k : ℕ) → Entered m s (j + k) → Entered (turnsOf m s j .gave .machine) (turnsOf m s j .storage) k
+unfolding statusAllowed
+entered-again m s b j k e =
+    record {
+      size = rw (turns-length-keeps m s j) (e .size);
+      budget = budget-below k (j + k) (omega arith) (e .budget);
+      status = lt-ltb (turnsOf m s j .gave .machine .status) 64 (turns-bounds m s b j .status);
+    }
+
+-- a run of j + k is a run of j and, where that returned 0, a run of k called with what it left
+pub run-again : (m : Machine) (s : List ℕ) → Bounded m s → (j k : ℕ) → Entered m s (j + k) → runOf m s j .gave .ended .answer ≡ Executed
+    → runOf m s (j + k) ≡ addSteps j (runOf (runOf m s j .gave .machine) (runOf m s j .storage) k)
+run-again m s b j k e z =
+    let r : runOf m s j ≡ turnsOf m s j =
+    run-entered m s j (record { size = e .size; budget = budget-below j (j + k) (omega arith) (e .budget); status = e .status }) in
+    rw r
+    (run-entered m s (j + k) e ∙ runs-on m s j k (rw r at z)
+    ∙ ap (addSteps j) (sym (run-entered (turnsOf m s j .gave .machine) (turnsOf m s j .storage) k (entered-again m s b j k e))))

@@ -7,7 +7,6 @@ use native.Mathlib.Omega.{arith}
 use native.Mathlib.Nat.{add-zero, add-suc, add-sub-of-le}
 use native.Mathlib.Numerals.{add-one}
 use lib.ListN.{length}
-use lib.Dec.{leb}
 use borrow.Author.Tests.{leb-true, le-leb}
 use Rattle.manual.specs.declared.Machine.{Machine}
 use Rattle.manual.specs.declared.Refusal.{Refusal}
@@ -261,7 +260,8 @@ module _ (m : Machine) (s : List ℕ) where
   unfolding runOf
   run-by P b t r = on (sizeAllowed (length s)) (budgetAllowed b) (statusAllowed (m .status))
     where
-      on : (x y z : Bool) → P (cond x (cond y (cond z (turnsOf m s b) (ran m (Refused StatusRefused) 0 s)) (ran m (Refused BudgetRefused) 0 s)) (ran m (Refused SizeRefused) 0 s))
+      on : (x y z : Bool)
+          → P (cond x (cond y (cond z (turnsOf m s b) (ran m (Refused StatusRefused) 0 s)) (ran m (Refused BudgetRefused) 0 s)) (ran m (Refused SizeRefused) 0 s))
       on true true true = t
       on true true false = r StatusRefused
       on true false z = r BudgetRefused
