@@ -150,18 +150,18 @@ pub enum Decoded {
     NotFound(Stop),
 }
 
-// An instruction with the addresses of its operands: what a rule and a leaf see.
+// An instruction with the addresses of its operands: what a rule and a leaf see. Addresses have the width of an index.
 pub struct Fields {
     pub q: u8,
     pub r: u8,
-    pub a1: u16,
-    pub a2: u16,
-    pub next: u16,
+    pub a1: usize,
+    pub a2: usize,
+    pub next: usize,
 }
 
 // What ALC and SLC carry from column to column: the carry or borrow, and whether every result byte so far is zero.
 pub struct Columns {
-    pub over: u8,
+    pub over: usize,
     pub clear: bool,
 }
 

@@ -1,0 +1,3 @@
+pub mod Reaching
+pub mod Statuses
+pub mod Working
