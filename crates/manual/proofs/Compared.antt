@@ -1,7 +1,7 @@
 -- Compares are unsigned: CLC's order is the order of the two numbers, CLI's of the two bytes, and 40 is below F1. What carries it: a byte is below 256.
 use mathlib.Core.Path.{_≡_, refl, sym, _∙_, ap}
 use mathlib.Core.Logic.{_↔_}
-use mathlib.Core.Bool.{true, false≢true}
+use mathlib.Core.Bool.{true}
 use mathlib.Core.List.{List, [], _∷_, _++_}
 use Prim.Native.Nat.{ℕ, zero, suc, _+_, _-_, _/_, _%_, _^_, _≤_, _<_}
 use native.Mathlib.Decide.{decLt}
@@ -13,16 +13,14 @@ use borrow.Author.Tests.{lt-ltb, le-ltb, eq-eqb, ne-eqb}
 use Rattle.manual.specs.declared.Machine.{Machine}
 use Rattle.manual.specs.declared.Fields.{Fields}
 use Rattle.manual.specs.declared.Answer.the-variants.{Executed}
-use Rattle.manual.specs.declared.Way.{Way}
-use Rattle.manual.specs.declared.Way.the-variants.{Clear, Barred}
-use Rattle.manual.specs.Programs.{Prog, Out, clear, unless}
+use Rattle.manual.specs.Programs.{clear}
 use Rattle.manual.specs.TheMachine.{equal, low, high, setOrder, orderOf}
 use Rattle.manual.specs.Formats.{reach}
 use Rattle.manual.specs.Values.{bytesOf, number}
 use Rattle.manual.specs.Logical.{reachBoth, clc}
 use Rattle.manual.specs.Immediate.{cli}
 use Rattle.manual.specs.Step.{ended, moved, did}
-use Rattle.manual.proofs.Running.{doing}
+use Rattle.manual.proofs.Running.{doing, unless-clear}
 
 -- bytes: each of them is below 256
 abbrev pub Bytes : List ℕ → Type 0
@@ -101,12 +99,6 @@ unfolding setOrder
 order-leaves o status h = omega arith
 
 -- ---- the rules
-
--- a rule that nothing stands in the way of goes on
-pub unless-clear : (w : Way) (p : Prog Out) → clear w ≡ true → unless w p ≡ p
-unfolding unless
-unless-clear Clear p e = refl
-unless-clear (Barred x) p e = absurd (false≢true e)
 
 module _ (m : Machine) (s : List ℕ) (f : Fields) where
   pub clc-compares : clear (reachBoth f (length s)) ≡ true

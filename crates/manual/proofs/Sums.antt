@@ -23,8 +23,8 @@ use Rattle.manual.specs.Values.{bytesOf, number}
 use Rattle.manual.specs.Logical.{reachBoth, Column, added, subtracted, onward, columns, fresh, sumStatus, differenceStatus, alc, slc}
 use Rattle.manual.specs.Immediate.{sli}
 use Rattle.manual.specs.Step.{Outcome, ended, moved, did}
-use Rattle.manual.proofs.Running.{doing, both-clear, reach-clear}
-use Rattle.manual.proofs.Compared.{Bytes, order-equal, order-low, order-high, order-set, order-leaves, order-small, unless-clear}
+use Rattle.manual.proofs.Running.{doing, unless-clear, both-clear, reach-clear}
+use Rattle.manual.proofs.Compared.{Bytes, order-equal, order-low, order-high, order-set, order-leaves, order-small}
 use Rattle.manual.proofs.Compared.{bytes-of, number-below, field-below}
 
 -- the column at the addresses a and b

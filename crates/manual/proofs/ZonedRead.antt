@@ -17,15 +17,14 @@ use Rattle.manual.specs.declared.Machine.{Machine}
 use Rattle.manual.specs.declared.Fields.{Fields}
 use Rattle.manual.specs.declared.Answer.{Answer}
 use Rattle.manual.specs.declared.Answer.the-variants.{Executed}
-use Rattle.manual.specs.declared.Way.{Way}
-use Rattle.manual.specs.declared.Way.the-variants.{Clear, Barred}
+use Rattle.manual.specs.declared.Way.the-variants.{Clear}
 use Rattle.manual.specs.Places.{state}
-use Rattle.manual.specs.Programs.{Prog, fin, Out, clear, unless, andThen}
+use Rattle.manual.specs.Programs.{fin, clear, andThen}
 use Rattle.manual.specs.TheMachine.{decimalOverflow, equal, low, high, isOn, turnOn, setOrder}
 use Rattle.manual.specs.Values.{bytesOf, digit, zone, size, minus, signed, value, allDigits, digitsOf, negative, cut, overflows, leftMinus, cutTo, signOrder}
 use Rattle.manual.specs.Zoned.{l1, l2, zonedReach, putDigits, putZoned, zonedStatus, putResult, zaz, combine, az, sz}
 use Rattle.manual.specs.Step.{Outcome, ended, moved, given, did, Gives}
-use Rattle.manual.proofs.Running.{from, did-from, from-bind, from-go, val-leftward, fin-leftward, and-both, both-clear, reach-clear}
+use Rattle.manual.proofs.Running.{from, did-from, from-bind, from-go, val-leftward, fin-leftward, unless-clear, and-both, both-clear, reach-clear}
 use Rattle.manual.proofs.Digits.{digitAt, digit-units, digit-next, digit-small, digit-cut, cut-next}
 
 -- n bytes put from a to the left, byte j from the right being f j
@@ -412,11 +411,6 @@ order-high (pos (suc k)) = (λ e. (refl, not-zero k), λ e. order-plus k)
 order-high (negsuc k) = (λ e. absurd (unlike (order-minus k) e (λ q. omega arith)), λ e. absurd (false≢true (sym (e .0))))
 
 -- ---- the instructions
-
-pub unless-clear : (w : Way) (p : Prog Out) → clear w ≡ true → unless w p ≡ p
-unfolding unless
-unless-clear Clear p e = refl
-unless-clear (Barred x) p e = absurd (false≢true e)
 
 pub digits-clear : (bs : List ℕ) → allDigits bs ≡ true → digitsOf bs ≡ Clear
 unfolding digitsOf
