@@ -21,10 +21,7 @@ use Rattle.manual.specs.Logical.{reachBoth, clc}
 use Rattle.manual.specs.Immediate.{cli}
 use Rattle.manual.specs.Step.{ended, moved, did}
 use Rattle.manual.proofs.Running.{doing, unless-clear}
-
--- bytes: each of them is below 256
-abbrev pub Bytes : List ℕ → Type 0
-Bytes xs = (i : ℕ) → getD xs i 0 < 256
+use Rattle.manual.proofs.FieldBytes.{Bytes, bytes-length, bytes-of}
 
 -- ---- the order of two numbers
 
@@ -113,27 +110,6 @@ module _ (m : Machine) (s : List ℕ) (f : Fields) where
   cli-compares e = simp (doing, unless-clear)
 
 -- ---- the number of a field's bytes
-
-pub bytes-length : (s : List ℕ) (n a : ℕ) → length (bytesOf s n a) ≡ n
-unfolding bytesOf
-bytes-length s zero a = refl
-bytes-length s (suc n) a = ap suc (bytes-length s n (a - 1))
-
--- a field of bytes is bytes
-pub bytes-of : (s : List ℕ) (n a : ℕ) → Bytes s → Bytes (bytesOf s n a)
-unfolding bytesOf
-bytes-of s zero a h i = lit< tt
-bytes-of s (suc n) a h zero = h a
-bytes-of s (suc n) a h (suc i) = bytes-of s n (a - 1) h i
-
--- the number of bytes is below 256 to their count
-pub number-below : (xs : List ℕ) → Bytes xs → number xs < 256 ^ length xs
-unfolding number
-number-below [] h = lit< tt
-number-below (x ∷ xs) h = rw pow-succ' (omega (arith, h 0, number-below xs (λ i. h (suc i))))
-
-pub field-below : (s : List ℕ) (n a : ℕ) → Bytes (bytesOf s n a) → number (bytesOf s n a) < 256 ^ n
-field-below s n a h = rw (bytes-length s n a) at (number-below (bytesOf s n a) h)
 
 -- bytes of one count with one number are byte for byte the same
 pub number-tells : (xs ys : List ℕ) → length xs ≡ length ys → Bytes xs → Bytes ys → number xs ≡ number ys → xs ≡ ys

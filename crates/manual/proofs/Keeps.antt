@@ -47,6 +47,7 @@ use Rattle.manual.specs.Immediate.{tested, changed, tbn, tbf, sbn, sbf, 
 use Rattle.manual.specs.Branches.{taken, offIfPicked, afterTest, branch, jump, loadAddress, call}
 use Rattle.manual.specs.Step.{Outcome, ended, settle, given, did, exec, based, addressed, fields, perform, follow, step, innerStep, stepOf}
 use Rattle.manual.specs.Run.{RanOutcome, ran, countAfter, moreOf, more, turnsOf, runOf}
+use Rattle.manual.proofs.FieldBytes.{Bytes, set-below, cons-below}
 use Rattle.manual.proofs.Runs.{addSteps, Entered, not-refused, not-stopped, more-steps, one-more, runs-on, budget-below, run-entered, run-by}
 
 -- registers below 65,536, the work registers four, the status below 64, bytes below 256
@@ -187,19 +188,6 @@ module _ (m : Machine) (s : List ℕ) where
   run-length-keeps b = run-by m s (λ o. length (o .storage) ≡ length s) b (turns-length-keeps b) (λ x. refl)
 
 -- ---- one program's bounds
-
--- a list whose elements are below b, with one replaced
-set-below : (b : ℕ) (l : List ℕ) (i v : ℕ) → v < b → ((j : ℕ) → getD l j 0 < b) → (j : ℕ) → getD (set l i v) j 0 < b
-set-below b [] i v h hs j = hs j
-set-below b (x ∷ l) zero v h hs zero = h
-set-below b (x ∷ l) zero v h hs (suc j) = hs (suc j)
-set-below b (x ∷ l) (suc i) v h hs zero = hs zero
-set-below b (x ∷ l) (suc i) v h hs (suc j) = set-below b l i v h (λ k. hs (suc k)) j
-
--- a list with one more in front
-cons-below : (b x : ℕ) (l : List ℕ) → x < b → ((j : ℕ) → getD l j 0 < b) → (j : ℕ) → getD (x ∷ l) j 0 < b
-cons-below b x l h hs zero = h
-cons-below b x l h hs (suc j) = hs j
 
 look-below : (l : Place) (σ : State) → Bounded (σ .machine) (σ .bytes) → look l σ < limit l
 look-below (mem a) σ b = b .bytes a
@@ -365,9 +353,6 @@ unfolding afterTest
 after-below q x h = picked-below testFalse q (offIfPicked decimalOverflow q x) (picked-below decimalOverflow q x h)
 
 -- ---- the parts of the rules
-
-abbrev Bytes : List ℕ → Type 0
-Bytes vs = (i : ℕ) → getD vs i 0 < 256
 
 abbrev Any : {A : Type 0} → A → Type 0
 Any x = Unit

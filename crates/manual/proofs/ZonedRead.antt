@@ -25,16 +25,8 @@ use Rattle.manual.specs.Values.{bytesOf, digit, zone, size, minus, signe
 use Rattle.manual.specs.Zoned.{l1, l2, zonedReach, putDigits, putZoned, zonedStatus, putResult, zaz, combine, az, sz}
 use Rattle.manual.specs.Step.{Outcome, ended, moved, given, did, Gives}
 use Rattle.manual.proofs.Running.{from, did-from, from-bind, from-go, val-leftward, fin-leftward, unless-clear, and-both, both-clear, reach-clear}
+use Rattle.manual.proofs.FieldBytes.{Outside, written, outside-apart, written-length, written-outside, written-inside, written-same, written-first, written-once}
 use Rattle.manual.proofs.Digits.{digitAt, digit-units, digit-next, digit-small, digit-cut, cut-next}
-
--- n bytes put from a to the left, byte j from the right being f j
-unfoldable pub written : List ℕ → ℕ → ℕ → (ℕ → ℕ) → List ℕ
-written s zero a f = s
-written s (suc n) a f = set (written s n a f) (a - n) (f n)
-
--- the address i is outside the field of n bytes whose rightmost is at a
-abbrev pub Outside : ℕ → ℕ → ℕ → Type 0
-Outside n a i = (j : ℕ) → j < n → i ≡ a - j → ⊥
 
 -- byte j from the right of a field: zone F and a digit of m; the rightmost zone D for minus
 unfoldable pub zonedByte : Bool → ℕ → ℕ → ℕ
@@ -62,66 +54,6 @@ pub record ZonedLeft (m : Machine) (s : List ℕ) (f : Fields) (x : ℤ) (o : Ou
   pub order : o .gave .machine .status % 8 ≡ signOrder (cutTo (l1 (f .q)) x)
   pub overflow : isOn decimalOverflow (o .gave .machine .status) ≡ (overflows (l1 (f .q)) x || isOn decimalOverflow (m .status))
   pub others : o .gave .machine .status / 16 ≡ m .status / 16
-
--- ---- bytes put in a row
-
-pub written-none : (s : List ℕ) (a : ℕ) (f : ℕ → ℕ) → written s 0 a f ≡ s
-unfolding written
-written-none s a f = refl
-
-pub written-next : (s : List ℕ) (n a : ℕ) (f : ℕ → ℕ) → written s (n + 1) a f ≡ set (written s n a f) (a - n) (f n)
-unfolding written
-written-next s n a f = rw add-one
-
-pub written-length : (s : List ℕ) (n a : ℕ) (f : ℕ → ℕ) → length (written s n a f) ≡ length s
-unfolding written
-written-length s zero a f = refl
-written-length s (suc n) a f = length-set (written s n a f) (a - n) (f n) ∙ written-length s n a f
-
-pub written-outside : (s : List ℕ) (n a : ℕ) (f : ℕ → ℕ) (i : ℕ) → Outside n a i → getD (written s n a f) i 0 ≡ getD s i 0
-unfolding written
-written-outside s zero a f i h = refl
-written-outside s (suc n) a f i h =
-    getD-set-other (written s n a f) (a - n) i (f n) 0 (h n (omega arith)) ∙ written-outside s n a f i (λ j q. h j (omega arith))
-
-pub written-inside : (s : List ℕ) (n a : ℕ) (f : ℕ → ℕ) (j : ℕ) → a < length s → n ≤ a + 1 → j < n → getD (written s n a f) (a - j) 0 ≡ f j
-unfolding written
-written-inside s (suc n) a f j inn fits q =
-    ⊎-elim
-    (λ e. rw e (getD-set-same (written s n a f) (a - n) (f n) 0 (omega (arith, written-length s n a f))))
-    (λ p. getD-set-other (written s n a f) (a - n) (a - j) (f n) 0 (λ x. omega arith) ∙ written-inside s n a f j inn (omega arith) p)
-    (eq-or-lt-of-le {n = j} {m = n} (omega arith))
-
--- only the n bytes count
-pub written-same : (s : List ℕ) (n a : ℕ) (f g : ℕ → ℕ) → ((j : ℕ) → j < n → f j ≡ g j) → written s n a f ≡ written s n a g
-unfolding written
-written-same s zero a f g h = refl
-written-same s (suc n) a f g h =
-    let below : written s n a f ≡ written s n a g = written-same s n a f g (λ j q. h j (omega arith)) in
-    let here : f n ≡ g n = h n (omega arith) in
-    cc
-
--- the rightmost first, and then the rest
-pub written-first : (s : List ℕ) (n a : ℕ) (f : ℕ → ℕ) → written s (suc n) a f ≡ written (set s a (f 0)) n (a - 1) (λ j. f (suc j))
-unfolding written
-written-first s zero a f = ap (λ (k : ℕ). set s k (f 0)) (sub-zero a)
-written-first s (suc n) a f =
-    let e : a - suc n ≡ a - 1 - n = omega arith in
-    let below : written s (suc n) a f ≡ written (set s a (f 0)) n (a - 1) (λ j. f (suc j)) = written-first s n a f in
-    cc
-
--- bytes that are right inside the field and outside it are the storage so written
-pub written-once : (s : List ℕ) (n a : ℕ) (f : ℕ → ℕ) (t : List ℕ) → a < length s → n ≤ a + 1 → length t ≡ length s
-    → ((j : ℕ) → j < n → getD t (a - j) 0 ≡ f j) → ((i : ℕ) → Outside n a i → getD t i 0 ≡ getD s i 0) → t ≡ written s n a f
-written-once s n a f t inn fits same inside outside =
-    ext-getD 0 t (written s n a f) (same ∙ sym (written-length s n a f)) (λ i q. at i (decLe i a) (decLt (a - i) n))
-  where
-    at : (i : ℕ) → Dec (i ≤ a) → Dec (a - i < n) → getD t i 0 ≡ getD (written s n a f) i 0
-    at i (yes p) (yes q) =
-        let e : a - (a - i) ≡ i = omega arith in
-        rw e at (inside (a - i) q ∙ sym (written-inside s n a f (a - i) inn fits q))
-    at i (yes p) (no q) = outside i (λ j h e. omega arith) ∙ sym (written-outside s n a f i (λ j h e. omega arith))
-    at i (no p) d = outside i (λ j h e. omega arith) ∙ sym (written-outside s n a f i (λ j h e. omega arith))
 
 -- ---- what the programs leave
 
@@ -284,7 +216,7 @@ sign-last s n a sign m inn fits some =
         getD-set-other l a (a - suc j) v 0 (λ e. omega arith) ∙ zoned-byte s n a false m inn fits (suc j) q ∙ byte-rest false m j ∙ sym (byte-rest sign m j)
 
     outside : (i : ℕ) → Outside n a i → getD (set l a v) i 0 ≡ getD s i 0
-    outside i h = getD-set-other l a i v 0 (λ e. h 0 some (e ∙ sym (sub-zero a))) ∙ written-outside s n a (zonedByte false m) i h
+    outside i h = getD-set-other l a i v 0 (λ e. outside-apart n a i h 0 some (e ∙ sym (sub-zero a))) ∙ written-outside s n a (zonedByte false m) i h
 
 -- ---- a signed number cut to a field
 
