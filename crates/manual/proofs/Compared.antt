@@ -76,25 +76,6 @@ high-told x y = (λ e. go e (order x y), order-high x y)
     go e (below h) = omega (arith, e, order-low x y h)
     go e (above h) = h
 
--- an order fits in its three bits
-pub order-small : (x y : ℕ) → orderOf x y < 8
-order-small x y = go (order x y)
-  where
-    go : Order x y → orderOf x y < 8
-    go (same h) = omega (arith, order-equal x y h)
-    go (below h) = omega (arith, order-low x y h)
-    go (above h) = omega (arith, order-high x y h)
-
--- ---- the order in the status: it is set, and what isn't named stays
-
-pub order-set : (o status : ℕ) → o < 8 → setOrder o status % 8 ≡ o
-unfolding setOrder
-order-set o status h = omega arith
-
-pub order-leaves : (o status : ℕ) → o < 8 → setOrder o status / 8 ≡ status / 8
-unfolding setOrder
-order-leaves o status h = omega arith
-
 -- ---- the rules
 
 module _ (m : Machine) (s : List ℕ) (f : Fields) where

@@ -47,6 +47,7 @@ use Rattle.manual.specs.Immediate.{tested, changed, tbn, tbf, sbn, sbf, 
 use Rattle.manual.specs.Branches.{taken, offIfPicked, afterTest, branch, jump, loadAddress, call}
 use Rattle.manual.specs.Step.{Outcome, ended, settle, given, did, exec, based, addressed, fields, perform, follow, step, innerStep, stepOf}
 use Rattle.manual.specs.Run.{RanOutcome, ran, countAfter, moreOf, more, turnsOf, runOf}
+use Rattle.manual.proofs.Status.{pick, below, order-small, sign-small, order-below, test-below, sum-below, difference-below, zoned-below, loaded-below, after-below}
 use Rattle.manual.proofs.FieldBytes.{Bytes, set-below, cons-below}
 use Rattle.manual.proofs.Runs.{addSteps, Entered, not-refused, not-stopped, more-steps, one-more, runs-on, budget-below, run-entered, run-by}
 
@@ -242,10 +243,6 @@ abbrev BoundedWay : Way → Type 0
 BoundedWay Clear = Unit
 BoundedWay (Barred x) = BoundedStop x
 
-pick : {A : Type 0} (P : A → Type 0) (b : Bool) (x y : A) → P x → P y → P (cond b x y)
-pick P true x y h k = h
-pick P false x y h k = k
-
 plain-outside : BoundedStop OperandOutside
 plain-outside = omega arith
 
@@ -277,80 +274,6 @@ keeps-unless : (w : Way) {p : Prog Out} → BoundedWay w → Keeps BoundedOut p 
 unfolding unless
 keeps-unless Clear h k = k
 keeps-unless (Barred x) h k = giving h
-
--- ---- the status stays below 64
-
-below : (n : ℕ) (b : Bool) (x y : ℕ) → x < n → y < n → cond b x y < n
-below n b x y h k = pick (λ (z : ℕ). z < n) b x y h k
-
--- one of equal, low and high
-one-below : (a b : Bool) (x y z : ℕ) → x < 8 → y < 8 → z < 8 → cond a x (cond b y z) < 8
-one-below a b x y z h j k = below 8 a x (cond b y z) h (below 8 b y z j k)
-
-order-below : (o x : ℕ) → o < 8 → x < 64 → setOrder o x < 64
-unfolding setOrder
-order-below o x h k = omega arith
-
-orderOf-below : (x y : ℕ) → orderOf x y < 8
-unfolding orderOf
-orderOf-below x y = one-below (eqb x y) (ltb x y) equal low high (omega arith) (omega arith) (omega arith)
-
-sign-below : (x : ℤ) → signOrder x < 8
-unfolding signOrder
-sign-below x = one-below (eqb (natAbs x) 0) (negative x) equal low high (omega arith) (omega arith) (omega arith)
-
-on-below : (bit x : ℕ) → x < 64 → ((x / bit % 2 ≡ 1 → ⊥) → x + bit < 64) → turnOn bit x < 64
-unfolding turnOn
-on-below bit x h k = on (isOn bit x) refl
-  where
-    on : (b : Bool) → isOn bit x ≡ b → cond b x (x + bit) < 64
-    on true e = h
-    on false e = k (eqb-false (x / bit % 2) 1 e)
-
-off-below : (bit x : ℕ) → x < 64 → turnOff bit x < 64
-unfolding turnOff
-off-below bit x h = below 64 (isOn bit x) (x - bit) x (omega arith) h
-
-binary-below : (x : ℕ) → x < 64 → turnOn binaryOverflow x < 64
-binary-below x h = on-below 32 x h (λ n. omega arith)
-
-test-below : (x : ℕ) → x < 64 → turnOn testFalse x < 64
-test-below x h = on-below 16 x h (λ n. omega arith)
-
-decimal-below : (x : ℕ) → x < 64 → turnOn decimalOverflow x < 64
-decimal-below x h = on-below 8 x h (λ n. omega arith)
-
-sum-below : (x : ℕ) (c : Columns) → x < 64 → sumStatus x c < 64
-unfolding sumStatus
-sum-below x c h =
-    order-below (cond (c .clear) equal (cond (eqb (c .over) 0) low high)) (cond (eqb (c .over) 0) (turnOff binaryOverflow x) (turnOn binaryOverflow x))
-    (one-below (c .clear) (eqb (c .over) 0) equal low high (omega arith) (omega arith) (omega arith))
-    (below 64 (eqb (c .over) 0) (turnOff binaryOverflow x) (turnOn binaryOverflow x) (off-below binaryOverflow x h) (binary-below x h))
-
-difference-below : (x : ℕ) (c : Columns) → x < 64 → differenceStatus x c < 64
-unfolding differenceStatus
-difference-below x c h =
-    order-below (cond (c .clear) equal (cond (eqb (c .over) 0) high low)) x
-    (one-below (c .clear) (eqb (c .over) 0) equal high low (omega arith) (omega arith) (omega arith)) h
-
-zoned-below : (n x : ℕ) (z : ℤ) → x < 64 → zonedStatus n x z < 64
-unfolding zonedStatus
-zoned-below n x z h =
-    order-below (signOrder (cutTo n z)) (cond (overflows n z) (turnOn decimalOverflow x) x) (sign-below (cutTo n z))
-    (below 64 (overflows n z) (turnOn decimalOverflow x) x (decimal-below x h) h)
-
-loaded-below : (b : ℕ) → loadedStatus b < 64
-unfolding loadedStatus
-loaded-below b =
-    order-below (cond (isOn equal b) equal (cond (isOn low b) low high)) (b % 64)
-    (one-below (isOn equal b) (isOn low b) equal low high (omega arith) (omega arith) (omega arith)) (omega arith)
-
-picked-below : (bit q x : ℕ) → x < 64 → offIfPicked bit q x < 64
-picked-below bit q x h = below 64 (isOn bit q) (turnOff bit x) x (off-below bit x h) h
-
-after-below : (q x : ℕ) → x < 64 → afterTest q x < 64
-unfolding afterTest
-after-below q x h = picked-below testFalse q (offIfPicked decimalOverflow q x) (picked-below decimalOverflow q x h)
 
 -- ---- the parts of the rules
 
@@ -481,7 +404,7 @@ module _ (f : Fields) (g : Given) (b : BoundedFields f) (h : g .status < 64) whe
       keeps-unless _ (way-reach _ _ _)
       (keeps-bind (keeps-leftward _ _) λ ps hp. keeps-unless _ (way-source (g .size) (count20 ps) (f .a2))
       (keeps-bind (keeps-leftward _ _) λ ys hy. keeps-unless _ (way-digits ys)
-      (keeps-bind (keeps-edited ps ys (f .a1)) λ u t. going (b .next) (order-below (signOrder (value ys)) (g .status) (sign-below (value ys)) h))))
+      (keeps-bind (keeps-edited ps ys (f .a1)) λ u t. going (b .next) (order-below (signOrder (value ys)) (g .status) (sign-small (value ys)) h))))
 
   keeps-itc : Keeps BoundedOut (itc f g)
   unfolding itc
@@ -498,7 +421,7 @@ module _ (f : Fields) (g : Given) (b : BoundedFields f) (h : g .status < 64) whe
   keeps-clc =
       keeps-unless _ way-fields
       (keeps-bind (keeps-leftward _ _) λ xs hx. keeps-bind (keeps-leftward _ _) λ ys hy.
-      going (b .next) (order-below _ (g .status) (orderOf-below _ _) h))
+      going (b .next) (order-below _ (g .status) (order-small _ _) h))
 
   keeps-alc : Keeps BoundedOut (alc f g)
   unfolding alc
@@ -548,7 +471,7 @@ module _ (f : Fields) (g : Given) (b : BoundedFields f) (h : g .status < 64) whe
 
   keeps-cli : Keeps BoundedOut (cli f g)
   unfolding cli
-  keeps-cli = keeps-tested _ (λ x. order-below (orderOf x (f .q)) (g .status) (orderOf-below x (f .q)) h)
+  keeps-cli = keeps-tested _ (λ x. order-below (orderOf x (f .q)) (g .status) (order-small x (f .q)) h)
 
   -- the changes: each byte is below 256
   keeps-changed : (byte : ℕ → ℕ) → ((x : ℕ) → x < 256 → byte x < 256) → Keeps BoundedOut (changed byte f g)

@@ -26,7 +26,8 @@ use Rattle.manual.specs.Step.{Outcome, ended, moved, did}
 use Rattle.manual.proofs.Running.{doing, unless-clear, both-clear, reach-clear}
 use Rattle.manual.proofs.FieldBytes.{Bytes, Outside, outside-apart, outside-left, outside-from, set-below}
 use Rattle.manual.proofs.FieldBytes.{bytes-of, bytes-beside, left-stays, left-inside, number-more, number-below, field-below}
-use Rattle.manual.proofs.Compared.{order-equal, order-low, order-high, order-set, order-leaves, order-small}
+use Rattle.manual.proofs.Status.{order-fits, order-small, order-set, order-leaves, overflow-same, above-same, turned}
+use Rattle.manual.proofs.Compared.{order-equal, order-low, order-high}
 
 -- the column at the addresses a and b
 abbrev pub columnAt : (ℕ → ℕ → ℕ → Column) → List ℕ → ℕ → ℕ → Columns → Column
@@ -260,34 +261,6 @@ module _ (column : ℕ → ℕ → ℕ → Column) (small : (x y c : ℕ) → co
 
 -- ---- the status of a sum
 
--- turning binary overflow on or off moves no other bit
-turned-on : (t : Bool) (x : ℕ) → isOn binaryOverflow x ≡ t
-    → (isOn binaryOverflow (cond t x (x + binaryOverflow)) ≡ true)
-    × (cond t x (x + binaryOverflow) / 8 % 4 ≡ x / 8 % 4)
-    × (cond t x (x + binaryOverflow) / 64 ≡ x / 64)
-turned-on true x e = (e, refl, refl)
-turned-on false x e =
-    let n = eqb-false (x / 32 % 2) 1 e in
-    (eq-eqb ((x + 32) / 32 % 2) 1 (omega arith), omega arith, omega arith)
-
-turned-off : (t : Bool) (x : ℕ) → isOn binaryOverflow x ≡ t
-    → (isOn binaryOverflow (cond t (x - binaryOverflow) x) ≡ false)
-    × (cond t (x - binaryOverflow) x / 8 % 4 ≡ x / 8 % 4)
-    × (cond t (x - binaryOverflow) x / 64 ≡ x / 64)
-turned-off true x e =
-    let n = eqb-true (x / 32 % 2) 1 e in
-    (ne-eqb ((x - 32) / 32 % 2) 1 (λ q. omega arith), omega arith, omega arith)
-turned-off false x e = (e, refl, refl)
-
--- binary overflow turned off where z, else on
-turned : (z : Bool) (x : ℕ)
-    → (isOn binaryOverflow (cond z (turnOff binaryOverflow x) (turnOn binaryOverflow x)) ≡ not z)
-    × (cond z (turnOff binaryOverflow x) (turnOn binaryOverflow x) / 8 % 4 ≡ x / 8 % 4)
-    × (cond z (turnOff binaryOverflow x) (turnOn binaryOverflow x) / 64 ≡ x / 64)
-unfolding turnOn turnOff
-turned true x = turned-off _ x refl
-turned false x = turned-on _ x refl
-
 -- what a width leaves of a sum, and whether it was carried over
 left-of : (r o p x : ℕ) → r + o * p ≡ x → r < p → x % p ≡ r
 left-of r o p x e h = rw (← e, add-mul-mod-self-right r o p) (mod-eq-of-lt h)
@@ -296,22 +269,10 @@ carried-over : (r o p x : ℕ) → r + o * p ≡ x → r < p → eqb o 0 ≡ not
 carried-over r zero p x e h = rw (lt-leb p x (omega arith))
 carried-over r (suc o) p x e h = let k : p ≤ x = omega (arith, suc-mul o p) in rw (ne-eqb (suc o) 0 (λ q. omega arith), le-leb p x k)
 
-order-fits : (z t : Bool) → cond z equal (cond t low high) < 8
-order-fits true t = lit< tt
-order-fits false true = lit< tt
-order-fits false false = lit< tt
-
 carry-order : (z t : Bool) → cond z equal (cond (not t) low high) ≡ cond z equal (cond t high low)
 carry-order true t = refl
 carry-order false true = refl
 carry-order false false = refl
-
--- what the order's three bits leave
-overflow-same : (x y : ℕ) → x / 8 ≡ y / 8 → isOn binaryOverflow x ≡ isOn binaryOverflow y
-overflow-same x y e = let q : x / 32 ≡ y / 32 = omega arith in ap (λ (v : ℕ). eqb (v % 2) 1) q
-
-beyond-same : (x y : ℕ) → x / 8 ≡ y / 8 → x / 64 ≡ y / 64
-beyond-same x y e = omega arith
 
 sum-status : (before p x : ℕ) (z t : Bool) → t ≡ not (leb p x) → z ≡ eqb (x % p) 0
     → SumTold p x before (setOrder (cond z equal (cond t low high)) (cond t (turnOff binaryOverflow before) (turnOn binaryOverflow before)))
@@ -323,7 +284,7 @@ sum-status before p x z t q k =
       carry = overflow-same _ y e ∙ b .0 ∙ ap not q ∙ Bool·not-not (leb p x);
       ordered = order-set _ y (order-fits z t) ∙ (rw (q, k) (carry-order (eqb (x % p) 0) (leb p x)));
       middle = ap (λ (v : ℕ). v % 4) e ∙ b .1;
-      beyond = beyond-same _ y e ∙ b .2;
+      beyond = above-same _ y e .1 ∙ b .2;
     }
 
 pub sum-told : (before r p x : ℕ) (c : Columns) → r + c .over * p ≡ x → r < p → c .clear ≡ eqb r 0 → SumTold p x before (sumStatus before c)

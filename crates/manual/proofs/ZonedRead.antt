@@ -25,6 +25,7 @@ use Rattle.manual.specs.Values.{bytesOf, digit, zone, size, minus, signe
 use Rattle.manual.specs.Zoned.{l1, l2, zonedReach, putDigits, putZoned, zonedStatus, putResult, zaz, combine, az, sz}
 use Rattle.manual.specs.Step.{Outcome, ended, moved, given, did, Gives}
 use Rattle.manual.proofs.Running.{from, did-from, from-bind, from-go, val-leftward, fin-leftward, unless-clear, and-both, both-clear, reach-clear}
+use Rattle.manual.proofs.Status.{sign-small, order-set, order-leaves, above-same, overflow-set}
 use Rattle.manual.proofs.FieldBytes.{Outside, written, outside-apart, written-length, written-outside, written-inside, written-same, written-first, written-once}
 use Rattle.manual.proofs.Digits.{digitAt, digit-units, digit-next, digit-small, digit-cut, cut-next}
 
@@ -268,57 +269,29 @@ cut-fits n x e = rw (mod-eq-of-lt {n = natAbs x} {m = 10 ^ n} (leb-false (10 ^ n
 
 -- ---- the status
 
-order-small : (x : ℤ) → signOrder x < 8
-unfolding signOrder
-order-small x = small (eqb (natAbs x) 0) (negative x)
-  where
-    small : (b c : Bool) → cond b equal (cond c low high) < 8
-    small true c = omega arith
-    small false true = omega arith
-    small false false = omega arith
-
-set-order : (o x : ℕ) → o < 8 → (setOrder o x % 8 ≡ o) × (setOrder o x / 8 ≡ x / 8) × (setOrder o x / 16 ≡ x / 16)
-unfolding setOrder
-set-order o x h = (omega arith, omega arith, omega arith)
-
--- decimal overflow goes on, and nothing beside it changes
-overflow-on : (b : Bool) (x : ℕ) → isOn decimalOverflow x ≡ b → (cond b x (x + 8) / 8 % 2 ≡ 1) × (cond b x (x + 8) / 16 ≡ x / 16)
-overflow-on true x e = (eqb-true (x / 8 % 2) 1 e, refl)
-overflow-on false x e =
-    let z : x / 8 % 2 ≡ 1 → ⊥ = eqb-false (x / 8 % 2) 1 e in
-    (omega arith, omega arith)
-
-overflow-set : (b : Bool) (x : ℕ)
-    → (isOn decimalOverflow (cond b (turnOn decimalOverflow x) x) ≡ (b || isOn decimalOverflow x)) × (cond b (turnOn decimalOverflow x) x / 16 ≡ x / 16)
-unfolding turnOn
-overflow-set true x =
-    let h = overflow-on (isOn decimalOverflow x) x refl in
-    (eq-eqb _ 1 (h .0), h .1)
-overflow-set false x = (refl, refl)
-
 module _ (n status : ℕ) (x : ℤ) where
   pub status-order : zonedStatus n status x % 8 ≡ signOrder (cutTo n x)
   unfolding zonedStatus
-  status-order = set-order (signOrder (cutTo n x)) _ (order-small (cutTo n x)) .0
+  status-order = order-set (signOrder (cutTo n x)) _ (sign-small (cutTo n x))
 
   pub status-overflow : isOn decimalOverflow (zonedStatus n status x) ≡ (overflows n x || isOn decimalOverflow status)
   unfolding zonedStatus
   status-overflow =
-      ap (λ (k : ℕ). eqb (k % 2) 1) (set-order (signOrder (cutTo n x)) _ (order-small (cutTo n x)) .1) ∙ overflow-set (overflows n x) status .0
+      ap (λ (k : ℕ). eqb (k % 2) 1) (order-leaves (signOrder (cutTo n x)) _ (sign-small (cutTo n x))) ∙ overflow-set (overflows n x) status .0
 
   pub status-others : zonedStatus n status x / 16 ≡ status / 16
   unfolding zonedStatus
-  status-others = set-order (signOrder (cutTo n x)) _ (order-small (cutTo n x)) .2 ∙ overflow-set (overflows n x) status .1
+  status-others = above-same _ _ (order-leaves (signOrder (cutTo n x)) _ (sign-small (cutTo n x))) .0 ∙ overflow-set (overflows n x) status .1
 
 -- ---- equal, low and high by the number being zero, minus and plus
 
-order-minus : (k : ℕ) → signOrder (negsuc k) ≡ low
+sign-minus : (k : ℕ) → signOrder (negsuc k) ≡ low
 unfolding signOrder
-order-minus k = rw eqb·suc-zero
+sign-minus k = rw eqb·suc-zero
 
-order-plus : (k : ℕ) → signOrder (pos (suc k)) ≡ high
+sign-plus : (k : ℕ) → signOrder (pos (suc k)) ≡ high
 unfolding signOrder
-order-plus k = rw eqb·suc-zero
+sign-plus k = rw eqb·suc-zero
 
 -- two of the three are never the same, nor is a number beside zero zero
 unlike : {x y z : ℕ} → x ≡ y → x ≡ z → (y ≡ z → ⊥) → ⊥
@@ -327,20 +300,20 @@ unlike p q ne = ne (sym p ∙ q)
 not-zero : (k : ℕ) → pos (suc k) ≢ pos 0
 not-zero k e = let z : suc k ≡ 0 = ap natAbs e in omega arith
 
-pub order-equal : (x : ℤ) → (signOrder x ≡ equal) ↔ (x ≡ pos 0)
-order-equal (pos zero) = (λ e. refl, λ e. unfold signOrder in refl)
-order-equal (pos (suc k)) = (λ e. absurd (unlike (order-plus k) e (λ q. omega arith)), λ e. absurd (not-zero k e))
-order-equal (negsuc k) = (λ e. absurd (unlike (order-minus k) e (λ q. omega arith)), λ e. absurd (pos-ne-negsuc 0 k (sym e)))
+pub sign-equal : (x : ℤ) → (signOrder x ≡ equal) ↔ (x ≡ pos 0)
+sign-equal (pos zero) = (λ e. refl, λ e. unfold signOrder in refl)
+sign-equal (pos (suc k)) = (λ e. absurd (unlike (sign-plus k) e (λ q. omega arith)), λ e. absurd (not-zero k e))
+sign-equal (negsuc k) = (λ e. absurd (unlike (sign-minus k) e (λ q. omega arith)), λ e. absurd (pos-ne-negsuc 0 k (sym e)))
 
-pub order-low : (x : ℤ) → (signOrder x ≡ low) ↔ (negative x ≡ true)
-order-low (pos zero) = (λ e. absurd (unlike (order-equal (pos 0) .1 refl) e (λ q. omega arith)), λ e. absurd (false≢true e))
-order-low (pos (suc k)) = (λ e. absurd (unlike (order-plus k) e (λ q. omega arith)), λ e. absurd (false≢true e))
-order-low (negsuc k) = (λ e. refl, λ e. order-minus k)
+pub sign-low : (x : ℤ) → (signOrder x ≡ low) ↔ (negative x ≡ true)
+sign-low (pos zero) = (λ e. absurd (unlike (sign-equal (pos 0) .1 refl) e (λ q. omega arith)), λ e. absurd (false≢true e))
+sign-low (pos (suc k)) = (λ e. absurd (unlike (sign-plus k) e (λ q. omega arith)), λ e. absurd (false≢true e))
+sign-low (negsuc k) = (λ e. refl, λ e. sign-minus k)
 
-pub order-high : (x : ℤ) → (signOrder x ≡ high) ↔ ((negative x ≡ false) × (x ≢ pos 0))
-order-high (pos zero) = (λ e. absurd (unlike (order-equal (pos 0) .1 refl) e (λ q. omega arith)), λ e. absurd (e .1 refl))
-order-high (pos (suc k)) = (λ e. (refl, not-zero k), λ e. order-plus k)
-order-high (negsuc k) = (λ e. absurd (unlike (order-minus k) e (λ q. omega arith)), λ e. absurd (false≢true (sym (e .0))))
+pub sign-high : (x : ℤ) → (signOrder x ≡ high) ↔ ((negative x ≡ false) × (x ≢ pos 0))
+sign-high (pos zero) = (λ e. absurd (unlike (sign-equal (pos 0) .1 refl) e (λ q. omega arith)), λ e. absurd (e .1 refl))
+sign-high (pos (suc k)) = (λ e. (refl, not-zero k), λ e. sign-plus k)
+sign-high (negsuc k) = (λ e. absurd (unlike (sign-minus k) e (λ q. omega arith)), λ e. absurd (false≢true (sym (e .0))))
 
 -- ---- the instructions
 
@@ -430,7 +403,7 @@ module _ {m : Machine} {s : List ℕ} {f : Fields} {x : ℤ} {o : Outcome} (left
       let z : cutTo (l1 (f .q)) x ≡ pos 0 = ap (λ (k : ℕ). signed (negative x) k) e ∙ signed-zero (negative x) in (
         left .read-back ∙ z,
         left .sign-zone ∙ ap (λ (b : Bool). cond b 0xD 0xF) (minus-zero-gone (l1 (f .q)) x e),
-        left .order ∙ order-equal (cutTo (l1 (f .q)) x) .1 z,
+        left .order ∙ sign-equal (cutTo (l1 (f .q)) x) .1 z,
       )
 
   left-size : size (bytesOf (o .storage) (l1 (f .q)) (f .a1)) ≡ cut (l1 (f .q)) x
