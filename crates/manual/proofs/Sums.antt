@@ -340,10 +340,10 @@ module _ (m : Machine) (s : List ℕ) (f : Fields) where
     size = columns-length column s (f .q + 1) (f .a1) (f .a2) fresh;
   }
 
-byte-added : (x y c : ℕ) → added x y c .byte < 256
+pub byte-added : (x y c : ℕ) → added x y c .byte < 256
 byte-added x y c = mod-lt (x + y + c) (lit< tt)
 
-byte-subtracted : (x y c : ℕ) → subtracted x y c .byte < 256
+pub byte-subtracted : (x y c : ℕ) → subtracted x y c .byte < 256
 byte-subtracted x y c = mod-lt (x + 256 - (y + c)) (lit< tt)
 
 module _ (m : Machine) (s : List ℕ) (f : Fields) (reached : clear (reachBoth f (length s)) ≡ true) where
