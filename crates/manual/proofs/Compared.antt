@@ -1,7 +1,7 @@
 -- Compares are unsigned: CLC's order is the order of the two numbers, CLI's of the two bytes, and 40 is below F1. What carries it: a byte is below 256.
 use mathlib.Core.Path.{_≡_, refl, sym, _∙_, ap}
 use mathlib.Core.Logic.{_↔_}
-use mathlib.Core.Bool.{true, false≢true}
+use mathlib.Core.Bool.{true}
 use mathlib.Core.List.{List, [], _∷_, _++_}
 use Prim.Native.Nat.{ℕ, zero, suc, _+_, _-_, _/_, _%_, _^_, _≤_, _<_}
 use native.Mathlib.Decide.{decLt}
@@ -13,20 +13,15 @@ use borrow.Author.Tests.{lt-ltb, le-ltb, eq-eqb, ne-eqb}
 use Rattle.manual.specs.declared.Machine.{Machine}
 use Rattle.manual.specs.declared.Fields.{Fields}
 use Rattle.manual.specs.declared.Answer.the-variants.{Executed}
-use Rattle.manual.specs.declared.Way.{Way}
-use Rattle.manual.specs.declared.Way.the-variants.{Clear, Barred}
-use Rattle.manual.specs.Programs.{Prog, Out, clear, unless}
+use Rattle.manual.specs.Programs.{clear}
 use Rattle.manual.specs.TheMachine.{equal, low, high, setOrder, orderOf}
 use Rattle.manual.specs.Formats.{reach}
 use Rattle.manual.specs.Values.{bytesOf, number}
 use Rattle.manual.specs.Logical.{reachBoth, clc}
 use Rattle.manual.specs.Immediate.{cli}
 use Rattle.manual.specs.Step.{ended, moved, did}
-use Rattle.manual.proofs.Running.{doing}
-
--- bytes: each of them is below 256
-abbrev pub Bytes : List ℕ → Type 0
-Bytes xs = (i : ℕ) → getD xs i 0 < 256
+use Rattle.manual.proofs.Running.{doing, unless-clear}
+use Rattle.manual.proofs.FieldBytes.{Bytes, bytes-length, bytes-of}
 
 -- ---- the order of two numbers
 
@@ -81,32 +76,7 @@ high-told x y = (λ e. go e (order x y), order-high x y)
     go e (below h) = omega (arith, e, order-low x y h)
     go e (above h) = h
 
--- an order fits in its three bits
-pub order-small : (x y : ℕ) → orderOf x y < 8
-order-small x y = go (order x y)
-  where
-    go : Order x y → orderOf x y < 8
-    go (same h) = omega (arith, order-equal x y h)
-    go (below h) = omega (arith, order-low x y h)
-    go (above h) = omega (arith, order-high x y h)
-
--- ---- the order in the status: it is set, and what isn't named stays
-
-pub order-set : (o status : ℕ) → o < 8 → setOrder o status % 8 ≡ o
-unfolding setOrder
-order-set o status h = omega arith
-
-pub order-leaves : (o status : ℕ) → o < 8 → setOrder o status / 8 ≡ status / 8
-unfolding setOrder
-order-leaves o status h = omega arith
-
 -- ---- the rules
-
--- a rule that nothing stands in the way of goes on
-pub unless-clear : (w : Way) (p : Prog Out) → clear w ≡ true → unless w p ≡ p
-unfolding unless
-unless-clear Clear p e = refl
-unless-clear (Barred x) p e = absurd (false≢true e)
 
 module _ (m : Machine) (s : List ℕ) (f : Fields) where
   pub clc-compares : clear (reachBoth f (length s)) ≡ true
@@ -121,27 +91,6 @@ module _ (m : Machine) (s : List ℕ) (f : Fields) where
   cli-compares e = simp (doing, unless-clear)
 
 -- ---- the number of a field's bytes
-
-pub bytes-length : (s : List ℕ) (n a : ℕ) → length (bytesOf s n a) ≡ n
-unfolding bytesOf
-bytes-length s zero a = refl
-bytes-length s (suc n) a = ap suc (bytes-length s n (a - 1))
-
--- a field of bytes is bytes
-pub bytes-of : (s : List ℕ) (n a : ℕ) → Bytes s → Bytes (bytesOf s n a)
-unfolding bytesOf
-bytes-of s zero a h i = lit< tt
-bytes-of s (suc n) a h zero = h a
-bytes-of s (suc n) a h (suc i) = bytes-of s n (a - 1) h i
-
--- the number of bytes is below 256 to their count
-pub number-below : (xs : List ℕ) → Bytes xs → number xs < 256 ^ length xs
-unfolding number
-number-below [] h = lit< tt
-number-below (x ∷ xs) h = rw pow-succ' (omega (arith, h 0, number-below xs (λ i. h (suc i))))
-
-pub field-below : (s : List ℕ) (n a : ℕ) → Bytes (bytesOf s n a) → number (bytesOf s n a) < 256 ^ n
-field-below s n a h = rw (bytes-length s n a) at (number-below (bytesOf s n a) h)
 
 -- bytes of one count with one number are byte for byte the same
 pub number-tells : (xs ys : List ℕ) → length xs ≡ length ys → Bytes xs → Bytes ys → number xs ≡ number ys → xs ≡ ys

@@ -94,13 +94,27 @@ module _ (m : Machine) (s : List ℕ) where
   from-cond true p q σ = refl
   from-cond false p q σ = refl
 
+  pub from-clear : (p : Prog Out) (σ : State) → from m s (unless Clear p) σ ≡ from m s p σ
+  unfolding unless
+  from-clear p σ = refl
+
+  pub from-barred : (x : Stop) (p : Prog Out) (σ : State) → from m s (unless (Barred x) p) σ ≡ ended m (Stopped x) s
+  unfolding unless
+  from-barred x p σ = from-stop x σ
+
   pub from-bind : {A : Type 0} (p : Prog A) (f : A → Prog Out) (σ : State) → from m s (p >>= f) σ ≡ from m s (f (val p σ)) (fin p σ)
   unfolding from
   from-bind p f σ = rw (val-bind p f σ, fin-bind p f σ)
 
-pub ruleset doing = (did-from, from-stop, from-go, from-rd, from-wr, from-cond, from-bind, val-leftward, fin-leftward)
+pub ruleset doing = (did-from, from-stop, from-go, from-rd, from-wr, from-cond, from-clear, from-barred, from-bind, val-leftward, fin-leftward)
 
 -- ---- what stands in the way
+
+-- a rule that nothing stands in the way of goes on
+pub unless-clear : (w : Way) (p : Prog Out) → clear w ≡ true → unless w p ≡ p
+unfolding unless
+unless-clear Clear p e = refl
+unless-clear (Barred x) p e = absurd (false≢true e)
 
 pub clear-both : (v w : Way) → clear (andThen v w) ≡ (clear v && clear w)
 unfolding andThen

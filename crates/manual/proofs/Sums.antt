@@ -23,9 +23,11 @@ use Rattle.manual.specs.Values.{bytesOf, number}
 use Rattle.manual.specs.Logical.{reachBoth, Column, added, subtracted, onward, columns, fresh, sumStatus, differenceStatus, alc, slc}
 use Rattle.manual.specs.Immediate.{sli}
 use Rattle.manual.specs.Step.{Outcome, ended, moved, did}
-use Rattle.manual.proofs.Running.{doing, both-clear, reach-clear}
-use Rattle.manual.proofs.Compared.{Bytes, order-equal, order-low, order-high, order-set, order-leaves, order-small, unless-clear}
-use Rattle.manual.proofs.Compared.{bytes-of, number-below, field-below}
+use Rattle.manual.proofs.Running.{doing, unless-clear, both-clear, reach-clear}
+use Rattle.manual.proofs.FieldBytes.{Bytes, Outside, outside-apart, outside-left, outside-from, set-below}
+use Rattle.manual.proofs.FieldBytes.{bytes-of, bytes-beside, left-stays, left-inside, number-more, number-below, field-below}
+use Rattle.manual.proofs.Status.{order-fits, order-small, order-set, order-leaves, overflow-same, above-same, turned}
+use Rattle.manual.proofs.Compared.{order-equal, order-low, order-high}
 
 -- the column at the addresses a and b
 abbrev pub columnAt : (ℕ → ℕ → ℕ → Column) → List ℕ → ℕ → ℕ → Columns → Column
@@ -53,10 +55,6 @@ columnsBytes column s (suc n) a b c = columnsBytes column (bytesAfter column s a
 unfoldable pub columnsGive : (ℕ → ℕ → ℕ → Column) → List ℕ → ℕ → ℕ → ℕ → Columns → Columns
 columnsGive column s zero a b c = c
 columnsGive column s (suc n) a b c = columnsGive column (bytesAfter column s a b c) n (a - 1) (b - 1) (columnsAfter column s a b c)
-
--- an address outside the n bytes whose rightmost is at a
-abbrev pub Outside : ℕ → ℕ → ℕ → Type 0
-Outside n a i = (a < i) ⊎ (i + n ≤ a)
 
 -- operand 2's bytes, the rightmost at b, aren't overwritten before they are taken
 abbrev pub Unharmed : ℕ → ℕ → ℕ → Type 0
@@ -112,16 +110,12 @@ module _ (column : ℕ → ℕ → ℕ → Column) where
   columns-length s zero a b c = refl
   columns-length s (suc n) a b c = columns-length _ n (a - 1) (b - 1) _ ∙ length-set s a _
 
-  -- a byte at which nothing is stored
-  columns-other : (s : List ℕ) (n a b : ℕ) (c : Columns) (i : ℕ) → ((j : ℕ) → j < n → i ≡ a - j → ⊥) → getD (columnsBytes column s n a b c) i 0 ≡ getD s i 0
-  unfolding columnsBytes
-  columns-other s zero a b c i h = refl
-  columns-other s (suc n) a b c i h =
-      columns-other _ n (a - 1) (b - 1) _ i (λ j l e. h (suc j) (omega arith) (omega arith)) ∙ getD-set-other s a i _ 0 (λ e. h 0 (omega arith) (omega arith))
-
   pub columns-outside : (s : List ℕ) (n a b : ℕ) (c : Columns) (i : ℕ) → Outside n a i → getD (columnsBytes column s n a b c) i 0 ≡ getD s i 0
-  columns-outside s n a b c i (inl h) = columns-other s n a b c i (λ j l e. omega arith)
-  columns-outside s n a b c i (inr h) = columns-other s n a b c i (λ j l e. omega arith)
+  unfolding columnsBytes
+  columns-outside s zero a b c i h = refl
+  columns-outside s (suc n) a b c i h =
+      columns-outside _ n (a - 1) (b - 1) _ i (outside-left n a i h)
+      ∙ getD-set-other s a i _ 0 (λ e. outside-apart (suc n) a i h 0 (omega arith) (omega arith))
 
   -- the first column, and the others to the left of it
   give-more : (s : List ℕ) (n a b : ℕ) (c : Columns)
@@ -137,7 +131,7 @@ module _ (column : ℕ → ℕ → ℕ → Column) where
 
   head-stays : (s : List ℕ) (n a b : ℕ) (c : Columns) → a < length s → n ≤ a → getD (columnsBytes column s (suc n) a b c) a 0 ≡ columnAt column s a b c .byte
   unfolding columnsBytes
-  head-stays s n a b c l h = columns-other _ n (a - 1) (b - 1) _ a (λ j k e. omega arith) ∙ getD-set-same s a _ 0 l
+  head-stays s n a b c l h = columns-outside _ n (a - 1) (b - 1) _ a (outside-from n a a h (omega arith)) ∙ getD-set-same s a _ 0 l
 
   left-more : (s : List ℕ) (n a b : ℕ) (c : Columns) → a < length s → n ≤ a
       → number (bytesOf (columnsBytes column s (suc n) a b c) (suc n) a)
@@ -145,27 +139,6 @@ module _ (column : ℕ → ℕ → ℕ → Column) where
       + 256 * number (bytesOf (columnsBytes column (bytesAfter column s a b c) n (a - 1) (b - 1) (columnsAfter column s a b c)) n (a - 1))
   unfolding columnsBytes bytesOf number
   left-more s n a b c l h = ap (λ (x : ℕ). x + 256 * number (bytesOf (columnsBytes column s (suc n) a b c) n (a - 1))) (head-stays s n a b c l h)
-
-number-more : (s : List ℕ) (n a : ℕ) → number (bytesOf s (suc n) a) ≡ getD s a 0 + 256 * number (bytesOf s n (a - 1))
-unfolding number bytesOf
-number-more s n a = refl
-
--- a store beside a field leaves its bytes
-pub bytes-beside : (s : List ℕ) (n a i v : ℕ) → ((j : ℕ) → j < n → a - j ≡ i → ⊥) → bytesOf (set s i v) n a ≡ bytesOf s n a
-unfolding bytesOf
-bytes-beside s zero a i v h = refl
-bytes-beside s (suc n) a i v h =
-    let e : getD (set s i v) a 0 ≡ getD s a 0 = getD-set-other s i a v 0 (λ q. h 0 (omega arith) (omega arith)) in
-    let r = bytes-beside s n (a - 1) i v (λ j l q. h (suc j) (omega arith) (omega arith)) in
-    λ k. e k ∷ r k
-
--- a store in a field leaves the bytes to the left of it
-left-stays : (s : List ℕ) (n a v : ℕ) → n ≤ a → bytesOf (set s a v) n (a - 1) ≡ bytesOf s n (a - 1)
-left-stays s n a v h = bytes-beside s n (a - 1) a v (λ j l q. omega arith)
-
--- the rest of a field is in storage too
-left-inside : (s : List ℕ) (a v : ℕ) → a < length s → a - 1 < length (set s a v)
-left-inside s a v l = rw (length-set s a v) (omega arith)
 
 -- ---- every result byte is zero where the result is
 
@@ -220,14 +193,6 @@ difference-more : (x y c k d v w u o p : ℕ) → k + (y + c) ≡ x + 256 * d �
     → k + 256 * v + (y + 256 * u + c) ≡ x + 256 * w + o * (256 * p)
 difference-more x y c k d v w u o p q e = let f : o * (256 * p) ≡ 256 * (o * p) = mul-left-comm o 256 p in omega arith
 
--- bytes stay bytes
-pub set-bytes : (s : List ℕ) (a v : ℕ) → Bytes s → v < 256 → a < length s → Bytes (set s a v)
-set-bytes s a v h k l i = go (ℕ-discrete i a)
-  where
-    go : Dec (i ≡ a) → getD (set s a v) i 0 < 256
-    go (yes e) = rw (e, getD-set-same s a v 0 l) k
-    go (no e) = rw (getD-set-other s a i v 0 e) (h i)
-
 pub columns-difference : (s : List ℕ) (n a b : ℕ) (c : Columns) → a < length s → n ≤ a + 1 → Bytes s → c .over ≤ 1
     → number (bytesOf (columnsBytes subtracted s n a b c) n a) + (number (takenOf subtracted s n a b c) + c .over)
     ≡ number (bytesOf s n a) + columnsGive subtracted s n a b c .over * 256 ^ n
@@ -237,7 +202,7 @@ columns-difference s (suc n) a b c l h k z =
     (difference-more _ _ _ _ _ _ _ _ _ _ (subtracted-keeps (getD s a 0) (getD s b 0) (c .over) (k a) (k b) z)
     (rw (left-stays s n a (columnAt subtracted s a b c .byte) (omega arith)) at
     (columns-difference (bytesAfter subtracted s a b c) n (a - 1) (b - 1) (columnsAfter subtracted s a b c) (left-inside s a _ l) (omega arith)
-    (set-bytes s a _ k (mod-lt _ (lit< tt)) l) (borrows-one (getD s a 0) (getD s b 0) (c .over)))))
+    (set-below 256 s a _ (mod-lt _ (lit< tt)) k) (borrows-one (getD s a 0) (getD s b 0) (c .over)))))
 
 pub columns-borrow : (s : List ℕ) (n a b : ℕ) (c : Columns) → c .over ≤ 1 → columnsGive subtracted s n a b c .over ≤ 1
 unfolding columnsGive
@@ -252,13 +217,13 @@ module _ (column : ℕ → ℕ → ℕ → Column) where
   unfolding takenOf bytesOf
   taken-left s zero a b c h d = refl
   taken-left s (suc n) a b c h d =
-      ap (λ (l : List ℕ). getD s b 0 ∷ l) (taken-left _ n (a - 1) (b - 1) _ (omega arith) (omega arith) ∙ bytes-beside s n (b - 1) a _ (λ j l q. omega arith))
+      ap (λ (l : List ℕ). getD s b 0 ∷ l) (taken-left _ n (a - 1) (b - 1) _ (omega arith) (omega arith) ∙ bytes-beside s n (b - 1) a _ (outside-from n b a (omega arith) d))
 
   taken-right : (s : List ℕ) (n a b : ℕ) (c : Columns) → a + n ≤ b → takenOf column s n a b c ≡ bytesOf s n b
   unfolding takenOf bytesOf
   taken-right s zero a b c d = refl
   taken-right s (suc n) a b c d =
-      ap (λ (l : List ℕ). getD s b 0 ∷ l) (taken-right _ n (a - 1) (b - 1) _ (omega arith) ∙ bytes-beside s n (b - 1) a _ (λ j l q. omega arith))
+      ap (λ (l : List ℕ). getD s b 0 ∷ l) (taken-right _ n (a - 1) (b - 1) _ (omega arith) ∙ bytes-beside s n (b - 1) a _ (inr (omega arith)))
 
   pub taken-unharmed : (s : List ℕ) (n a b : ℕ) (c : Columns) → n ≤ b + 1 → Unharmed n a b → takenOf column s n a b c ≡ bytesOf s n b
   taken-unharmed s n a b c h (inl d) = taken-left s n a b c h d
@@ -289,40 +254,12 @@ module _ (column : ℕ → ℕ → ℕ → Column) (small : (x y c : ℕ) → co
   taken-bytes s (suc n) a b c l h zero = h b
   taken-bytes s (suc n) a b c l h (suc i) =
       taken-bytes (bytesAfter column s a b c) n (a - 1) (b - 1) (columnsAfter column s a b c) (left-inside s a _ l)
-      (set-bytes s a _ h (small (getD s a 0) (getD s b 0) (c .over)) l) i
+      (set-below 256 s a _ (small (getD s a 0) (getD s b 0) (c .over)) h) i
 
   pub taken-below : (s : List ℕ) (n a b : ℕ) (c : Columns) → a < length s → Bytes s → number (takenOf column s n a b c) < 256 ^ n
   taken-below s n a b c l h = rw (taken-length column s n a b c) at (number-below (takenOf column s n a b c) (taken-bytes s n a b c l h))
 
 -- ---- the status of a sum
-
--- turning binary overflow on or off moves no other bit
-turned-on : (t : Bool) (x : ℕ) → isOn binaryOverflow x ≡ t
-    → (isOn binaryOverflow (cond t x (x + binaryOverflow)) ≡ true)
-    × (cond t x (x + binaryOverflow) / 8 % 4 ≡ x / 8 % 4)
-    × (cond t x (x + binaryOverflow) / 64 ≡ x / 64)
-turned-on true x e = (e, refl, refl)
-turned-on false x e =
-    let n = eqb-false (x / 32 % 2) 1 e in
-    (eq-eqb ((x + 32) / 32 % 2) 1 (omega arith), omega arith, omega arith)
-
-turned-off : (t : Bool) (x : ℕ) → isOn binaryOverflow x ≡ t
-    → (isOn binaryOverflow (cond t (x - binaryOverflow) x) ≡ false)
-    × (cond t (x - binaryOverflow) x / 8 % 4 ≡ x / 8 % 4)
-    × (cond t (x - binaryOverflow) x / 64 ≡ x / 64)
-turned-off true x e =
-    let n = eqb-true (x / 32 % 2) 1 e in
-    (ne-eqb ((x - 32) / 32 % 2) 1 (λ q. omega arith), omega arith, omega arith)
-turned-off false x e = (e, refl, refl)
-
--- binary overflow turned off where z, else on
-turned : (z : Bool) (x : ℕ)
-    → (isOn binaryOverflow (cond z (turnOff binaryOverflow x) (turnOn binaryOverflow x)) ≡ not z)
-    × (cond z (turnOff binaryOverflow x) (turnOn binaryOverflow x) / 8 % 4 ≡ x / 8 % 4)
-    × (cond z (turnOff binaryOverflow x) (turnOn binaryOverflow x) / 64 ≡ x / 64)
-unfolding turnOn turnOff
-turned true x = turned-off _ x refl
-turned false x = turned-on _ x refl
 
 -- what a width leaves of a sum, and whether it was carried over
 left-of : (r o p x : ℕ) → r + o * p ≡ x → r < p → x % p ≡ r
@@ -332,22 +269,10 @@ carried-over : (r o p x : ℕ) → r + o * p ≡ x → r < p → eqb o 0 ≡ not
 carried-over r zero p x e h = rw (lt-leb p x (omega arith))
 carried-over r (suc o) p x e h = let k : p ≤ x = omega (arith, suc-mul o p) in rw (ne-eqb (suc o) 0 (λ q. omega arith), le-leb p x k)
 
-order-fits : (z t : Bool) → cond z equal (cond t low high) < 8
-order-fits true t = lit< tt
-order-fits false true = lit< tt
-order-fits false false = lit< tt
-
 carry-order : (z t : Bool) → cond z equal (cond (not t) low high) ≡ cond z equal (cond t high low)
 carry-order true t = refl
 carry-order false true = refl
 carry-order false false = refl
-
--- what the order's three bits leave
-overflow-same : (x y : ℕ) → x / 8 ≡ y / 8 → isOn binaryOverflow x ≡ isOn binaryOverflow y
-overflow-same x y e = let q : x / 32 ≡ y / 32 = omega arith in ap (λ (v : ℕ). eqb (v % 2) 1) q
-
-beyond-same : (x y : ℕ) → x / 8 ≡ y / 8 → x / 64 ≡ y / 64
-beyond-same x y e = omega arith
 
 sum-status : (before p x : ℕ) (z t : Bool) → t ≡ not (leb p x) → z ≡ eqb (x % p) 0
     → SumTold p x before (setOrder (cond z equal (cond t low high)) (cond t (turnOff binaryOverflow before) (turnOn binaryOverflow before)))
@@ -359,7 +284,7 @@ sum-status before p x z t q k =
       carry = overflow-same _ y e ∙ b .0 ∙ ap not q ∙ Bool·not-not (leb p x);
       ordered = order-set _ y (order-fits z t) ∙ (rw (q, k) (carry-order (eqb (x % p) 0) (leb p x)));
       middle = ap (λ (v : ℕ). v % 4) e ∙ b .1;
-      beyond = beyond-same _ y e ∙ b .2;
+      beyond = above-same _ y e .1 ∙ b .2;
     }
 
 pub sum-told : (before r p x : ℕ) (c : Columns) → r + c .over * p ≡ x → r < p → c .clear ≡ eqb r 0 → SumTold p x before (sumStatus before c)
@@ -415,10 +340,10 @@ module _ (m : Machine) (s : List ℕ) (f : Fields) where
     size = columns-length column s (f .q + 1) (f .a1) (f .a2) fresh;
   }
 
-byte-added : (x y c : ℕ) → added x y c .byte < 256
+pub byte-added : (x y c : ℕ) → added x y c .byte < 256
 byte-added x y c = mod-lt (x + y + c) (lit< tt)
 
-byte-subtracted : (x y c : ℕ) → subtracted x y c .byte < 256
+pub byte-subtracted : (x y c : ℕ) → subtracted x y c .byte < 256
 byte-subtracted x y c = mod-lt (x + 256 - (y + c)) (lit< tt)
 
 module _ (m : Machine) (s : List ℕ) (f : Fields) (reached : clear (reachBoth f (length s)) ≡ true) where

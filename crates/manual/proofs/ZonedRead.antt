@@ -17,25 +17,17 @@ use Rattle.manual.specs.declared.Machine.{Machine}
 use Rattle.manual.specs.declared.Fields.{Fields}
 use Rattle.manual.specs.declared.Answer.{Answer}
 use Rattle.manual.specs.declared.Answer.the-variants.{Executed}
-use Rattle.manual.specs.declared.Way.{Way}
-use Rattle.manual.specs.declared.Way.the-variants.{Clear, Barred}
+use Rattle.manual.specs.declared.Way.the-variants.{Clear}
 use Rattle.manual.specs.Places.{state}
-use Rattle.manual.specs.Programs.{Prog, fin, Out, clear, unless, andThen}
+use Rattle.manual.specs.Programs.{fin, clear, andThen}
 use Rattle.manual.specs.TheMachine.{decimalOverflow, equal, low, high, isOn, turnOn, setOrder}
 use Rattle.manual.specs.Values.{bytesOf, digit, zone, size, minus, signed, value, allDigits, digitsOf, negative, cut, overflows, leftMinus, cutTo, signOrder}
 use Rattle.manual.specs.Zoned.{l1, l2, zonedReach, putDigits, putZoned, zonedStatus, putResult, zaz, combine, az, sz}
 use Rattle.manual.specs.Step.{Outcome, ended, moved, given, did, Gives}
-use Rattle.manual.proofs.Running.{from, did-from, from-bind, from-go, val-leftward, fin-leftward, and-both, both-clear, reach-clear}
+use Rattle.manual.proofs.Running.{from, did-from, from-bind, from-go, val-leftward, fin-leftward, unless-clear, and-both, both-clear, reach-clear}
+use Rattle.manual.proofs.Status.{sign-small, order-set, order-leaves, above-same, overflow-set}
+use Rattle.manual.proofs.FieldBytes.{Outside, written, outside-apart, written-length, written-outside, written-inside, written-same, written-first, written-once}
 use Rattle.manual.proofs.Digits.{digitAt, digit-units, digit-next, digit-small, digit-cut, cut-next}
-
--- n bytes put from a to the left, byte j from the right being f j
-unfoldable pub written : List ℕ → ℕ → ℕ → (ℕ → ℕ) → List ℕ
-written s zero a f = s
-written s (suc n) a f = set (written s n a f) (a - n) (f n)
-
--- the address i is outside the field of n bytes whose rightmost is at a
-abbrev pub Outside : ℕ → ℕ → ℕ → Type 0
-Outside n a i = (j : ℕ) → j < n → i ≡ a - j → ⊥
 
 -- byte j from the right of a field: zone F and a digit of m; the rightmost zone D for minus
 unfoldable pub zonedByte : Bool → ℕ → ℕ → ℕ
@@ -63,66 +55,6 @@ pub record ZonedLeft (m : Machine) (s : List ℕ) (f : Fields) (x : ℤ) (o : Ou
   pub order : o .gave .machine .status % 8 ≡ signOrder (cutTo (l1 (f .q)) x)
   pub overflow : isOn decimalOverflow (o .gave .machine .status) ≡ (overflows (l1 (f .q)) x || isOn decimalOverflow (m .status))
   pub others : o .gave .machine .status / 16 ≡ m .status / 16
-
--- ---- bytes put in a row
-
-pub written-none : (s : List ℕ) (a : ℕ) (f : ℕ → ℕ) → written s 0 a f ≡ s
-unfolding written
-written-none s a f = refl
-
-pub written-next : (s : List ℕ) (n a : ℕ) (f : ℕ → ℕ) → written s (n + 1) a f ≡ set (written s n a f) (a - n) (f n)
-unfolding written
-written-next s n a f = rw add-one
-
-pub written-length : (s : List ℕ) (n a : ℕ) (f : ℕ → ℕ) → length (written s n a f) ≡ length s
-unfolding written
-written-length s zero a f = refl
-written-length s (suc n) a f = length-set (written s n a f) (a - n) (f n) ∙ written-length s n a f
-
-pub written-outside : (s : List ℕ) (n a : ℕ) (f : ℕ → ℕ) (i : ℕ) → Outside n a i → getD (written s n a f) i 0 ≡ getD s i 0
-unfolding written
-written-outside s zero a f i h = refl
-written-outside s (suc n) a f i h =
-    getD-set-other (written s n a f) (a - n) i (f n) 0 (h n (omega arith)) ∙ written-outside s n a f i (λ j q. h j (omega arith))
-
-pub written-inside : (s : List ℕ) (n a : ℕ) (f : ℕ → ℕ) (j : ℕ) → a < length s → n ≤ a + 1 → j < n → getD (written s n a f) (a - j) 0 ≡ f j
-unfolding written
-written-inside s (suc n) a f j inn fits q =
-    ⊎-elim
-    (λ e. rw e (getD-set-same (written s n a f) (a - n) (f n) 0 (omega (arith, written-length s n a f))))
-    (λ p. getD-set-other (written s n a f) (a - n) (a - j) (f n) 0 (λ x. omega arith) ∙ written-inside s n a f j inn (omega arith) p)
-    (eq-or-lt-of-le {n = j} {m = n} (omega arith))
-
--- only the n bytes count
-pub written-same : (s : List ℕ) (n a : ℕ) (f g : ℕ → ℕ) → ((j : ℕ) → j < n → f j ≡ g j) → written s n a f ≡ written s n a g
-unfolding written
-written-same s zero a f g h = refl
-written-same s (suc n) a f g h =
-    let below : written s n a f ≡ written s n a g = written-same s n a f g (λ j q. h j (omega arith)) in
-    let here : f n ≡ g n = h n (omega arith) in
-    cc
-
--- the rightmost first, and then the rest
-pub written-first : (s : List ℕ) (n a : ℕ) (f : ℕ → ℕ) → written s (suc n) a f ≡ written (set s a (f 0)) n (a - 1) (λ j. f (suc j))
-unfolding written
-written-first s zero a f = ap (λ (k : ℕ). set s k (f 0)) (sub-zero a)
-written-first s (suc n) a f =
-    let e : a - suc n ≡ a - 1 - n = omega arith in
-    let below : written s (suc n) a f ≡ written (set s a (f 0)) n (a - 1) (λ j. f (suc j)) = written-first s n a f in
-    cc
-
--- bytes that are right inside the field and outside it are the storage so written
-pub written-once : (s : List ℕ) (n a : ℕ) (f : ℕ → ℕ) (t : List ℕ) → a < length s → n ≤ a + 1 → length t ≡ length s
-    → ((j : ℕ) → j < n → getD t (a - j) 0 ≡ f j) → ((i : ℕ) → Outside n a i → getD t i 0 ≡ getD s i 0) → t ≡ written s n a f
-written-once s n a f t inn fits same inside outside =
-    ext-getD 0 t (written s n a f) (same ∙ sym (written-length s n a f)) (λ i q. at i (decLe i a) (decLt (a - i) n))
-  where
-    at : (i : ℕ) → Dec (i ≤ a) → Dec (a - i < n) → getD t i 0 ≡ getD (written s n a f) i 0
-    at i (yes p) (yes q) =
-        let e : a - (a - i) ≡ i = omega arith in
-        rw e at (inside (a - i) q ∙ sym (written-inside s n a f (a - i) inn fits q))
-    at i (yes p) (no q) = outside i (λ j h e. omega arith) ∙ sym (written-outside s n a f i (λ j h e. omega arith))
-    at i (no p) d = outside i (λ j h e. omega arith) ∙ sym (written-outside s n a f i (λ j h e. omega arith))
 
 -- ---- what the programs leave
 
@@ -285,7 +217,7 @@ sign-last s n a sign m inn fits some =
         getD-set-other l a (a - suc j) v 0 (λ e. omega arith) ∙ zoned-byte s n a false m inn fits (suc j) q ∙ byte-rest false m j ∙ sym (byte-rest sign m j)
 
     outside : (i : ℕ) → Outside n a i → getD (set l a v) i 0 ≡ getD s i 0
-    outside i h = getD-set-other l a i v 0 (λ e. h 0 some (e ∙ sym (sub-zero a))) ∙ written-outside s n a (zonedByte false m) i h
+    outside i h = getD-set-other l a i v 0 (λ e. outside-apart n a i h 0 some (e ∙ sym (sub-zero a))) ∙ written-outside s n a (zonedByte false m) i h
 
 -- ---- a signed number cut to a field
 
@@ -337,57 +269,29 @@ cut-fits n x e = rw (mod-eq-of-lt {n = natAbs x} {m = 10 ^ n} (leb-false (10 ^ n
 
 -- ---- the status
 
-order-small : (x : ℤ) → signOrder x < 8
-unfolding signOrder
-order-small x = small (eqb (natAbs x) 0) (negative x)
-  where
-    small : (b c : Bool) → cond b equal (cond c low high) < 8
-    small true c = omega arith
-    small false true = omega arith
-    small false false = omega arith
-
-set-order : (o x : ℕ) → o < 8 → (setOrder o x % 8 ≡ o) × (setOrder o x / 8 ≡ x / 8) × (setOrder o x / 16 ≡ x / 16)
-unfolding setOrder
-set-order o x h = (omega arith, omega arith, omega arith)
-
--- decimal overflow goes on, and nothing beside it changes
-overflow-on : (b : Bool) (x : ℕ) → isOn decimalOverflow x ≡ b → (cond b x (x + 8) / 8 % 2 ≡ 1) × (cond b x (x + 8) / 16 ≡ x / 16)
-overflow-on true x e = (eqb-true (x / 8 % 2) 1 e, refl)
-overflow-on false x e =
-    let z : x / 8 % 2 ≡ 1 → ⊥ = eqb-false (x / 8 % 2) 1 e in
-    (omega arith, omega arith)
-
-overflow-set : (b : Bool) (x : ℕ)
-    → (isOn decimalOverflow (cond b (turnOn decimalOverflow x) x) ≡ (b || isOn decimalOverflow x)) × (cond b (turnOn decimalOverflow x) x / 16 ≡ x / 16)
-unfolding turnOn
-overflow-set true x =
-    let h = overflow-on (isOn decimalOverflow x) x refl in
-    (eq-eqb _ 1 (h .0), h .1)
-overflow-set false x = (refl, refl)
-
 module _ (n status : ℕ) (x : ℤ) where
   pub status-order : zonedStatus n status x % 8 ≡ signOrder (cutTo n x)
   unfolding zonedStatus
-  status-order = set-order (signOrder (cutTo n x)) _ (order-small (cutTo n x)) .0
+  status-order = order-set (signOrder (cutTo n x)) _ (sign-small (cutTo n x))
 
   pub status-overflow : isOn decimalOverflow (zonedStatus n status x) ≡ (overflows n x || isOn decimalOverflow status)
   unfolding zonedStatus
   status-overflow =
-      ap (λ (k : ℕ). eqb (k % 2) 1) (set-order (signOrder (cutTo n x)) _ (order-small (cutTo n x)) .1) ∙ overflow-set (overflows n x) status .0
+      ap (λ (k : ℕ). eqb (k % 2) 1) (order-leaves (signOrder (cutTo n x)) _ (sign-small (cutTo n x))) ∙ overflow-set (overflows n x) status .0
 
   pub status-others : zonedStatus n status x / 16 ≡ status / 16
   unfolding zonedStatus
-  status-others = set-order (signOrder (cutTo n x)) _ (order-small (cutTo n x)) .2 ∙ overflow-set (overflows n x) status .1
+  status-others = above-same _ _ (order-leaves (signOrder (cutTo n x)) _ (sign-small (cutTo n x))) .0 ∙ overflow-set (overflows n x) status .1
 
 -- ---- equal, low and high by the number being zero, minus and plus
 
-order-minus : (k : ℕ) → signOrder (negsuc k) ≡ low
+sign-minus : (k : ℕ) → signOrder (negsuc k) ≡ low
 unfolding signOrder
-order-minus k = rw eqb·suc-zero
+sign-minus k = rw eqb·suc-zero
 
-order-plus : (k : ℕ) → signOrder (pos (suc k)) ≡ high
+sign-plus : (k : ℕ) → signOrder (pos (suc k)) ≡ high
 unfolding signOrder
-order-plus k = rw eqb·suc-zero
+sign-plus k = rw eqb·suc-zero
 
 -- two of the three are never the same, nor is a number beside zero zero
 unlike : {x y z : ℕ} → x ≡ y → x ≡ z → (y ≡ z → ⊥) → ⊥
@@ -396,27 +300,22 @@ unlike p q ne = ne (sym p ∙ q)
 not-zero : (k : ℕ) → pos (suc k) ≢ pos 0
 not-zero k e = let z : suc k ≡ 0 = ap natAbs e in omega arith
 
-pub order-equal : (x : ℤ) → (signOrder x ≡ equal) ↔ (x ≡ pos 0)
-order-equal (pos zero) = (λ e. refl, λ e. unfold signOrder in refl)
-order-equal (pos (suc k)) = (λ e. absurd (unlike (order-plus k) e (λ q. omega arith)), λ e. absurd (not-zero k e))
-order-equal (negsuc k) = (λ e. absurd (unlike (order-minus k) e (λ q. omega arith)), λ e. absurd (pos-ne-negsuc 0 k (sym e)))
+pub sign-equal : (x : ℤ) → (signOrder x ≡ equal) ↔ (x ≡ pos 0)
+sign-equal (pos zero) = (λ e. refl, λ e. unfold signOrder in refl)
+sign-equal (pos (suc k)) = (λ e. absurd (unlike (sign-plus k) e (λ q. omega arith)), λ e. absurd (not-zero k e))
+sign-equal (negsuc k) = (λ e. absurd (unlike (sign-minus k) e (λ q. omega arith)), λ e. absurd (pos-ne-negsuc 0 k (sym e)))
 
-pub order-low : (x : ℤ) → (signOrder x ≡ low) ↔ (negative x ≡ true)
-order-low (pos zero) = (λ e. absurd (unlike (order-equal (pos 0) .1 refl) e (λ q. omega arith)), λ e. absurd (false≢true e))
-order-low (pos (suc k)) = (λ e. absurd (unlike (order-plus k) e (λ q. omega arith)), λ e. absurd (false≢true e))
-order-low (negsuc k) = (λ e. refl, λ e. order-minus k)
+pub sign-low : (x : ℤ) → (signOrder x ≡ low) ↔ (negative x ≡ true)
+sign-low (pos zero) = (λ e. absurd (unlike (sign-equal (pos 0) .1 refl) e (λ q. omega arith)), λ e. absurd (false≢true e))
+sign-low (pos (suc k)) = (λ e. absurd (unlike (sign-plus k) e (λ q. omega arith)), λ e. absurd (false≢true e))
+sign-low (negsuc k) = (λ e. refl, λ e. sign-minus k)
 
-pub order-high : (x : ℤ) → (signOrder x ≡ high) ↔ ((negative x ≡ false) × (x ≢ pos 0))
-order-high (pos zero) = (λ e. absurd (unlike (order-equal (pos 0) .1 refl) e (λ q. omega arith)), λ e. absurd (e .1 refl))
-order-high (pos (suc k)) = (λ e. (refl, not-zero k), λ e. order-plus k)
-order-high (negsuc k) = (λ e. absurd (unlike (order-minus k) e (λ q. omega arith)), λ e. absurd (false≢true (sym (e .0))))
+pub sign-high : (x : ℤ) → (signOrder x ≡ high) ↔ ((negative x ≡ false) × (x ≢ pos 0))
+sign-high (pos zero) = (λ e. absurd (unlike (sign-equal (pos 0) .1 refl) e (λ q. omega arith)), λ e. absurd (e .1 refl))
+sign-high (pos (suc k)) = (λ e. (refl, not-zero k), λ e. sign-plus k)
+sign-high (negsuc k) = (λ e. absurd (unlike (sign-minus k) e (λ q. omega arith)), λ e. absurd (false≢true (sym (e .0))))
 
 -- ---- the instructions
-
-pub unless-clear : (w : Way) (p : Prog Out) → clear w ≡ true → unless w p ≡ p
-unfolding unless
-unless-clear Clear p e = refl
-unless-clear (Barred x) p e = absurd (false≢true e)
 
 pub digits-clear : (bs : List ℕ) → allDigits bs ≡ true → digitsOf bs ≡ Clear
 unfolding digitsOf
@@ -504,7 +403,7 @@ module _ {m : Machine} {s : List ℕ} {f : Fields} {x : ℤ} {o : Outcome} (left
       let z : cutTo (l1 (f .q)) x ≡ pos 0 = ap (λ (k : ℕ). signed (negative x) k) e ∙ signed-zero (negative x) in (
         left .read-back ∙ z,
         left .sign-zone ∙ ap (λ (b : Bool). cond b 0xD 0xF) (minus-zero-gone (l1 (f .q)) x e),
-        left .order ∙ order-equal (cutTo (l1 (f .q)) x) .1 z,
+        left .order ∙ sign-equal (cutTo (l1 (f .q)) x) .1 z,
       )
 
   left-size : size (bytesOf (o .storage) (l1 (f .q)) (f .a1)) ≡ cut (l1 (f .q)) x
