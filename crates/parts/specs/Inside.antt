@@ -2,8 +2,8 @@
 use mathlib.Core.Path.{_≡_}
 use mathlib.Core.Bool.{Bool, true, false}
 use mathlib.Core.List.{List}
-use Prim.Native.Nat.{ℕ, _<_}
-use lib.ListN.{length, getD}
+use Prim.Native.Nat.{ℕ, _+_, _<_}
+use lib.ListN.{getD}
 use Rattle.manual.specs.declared.Machine.{Machine}
 use Rattle.manual.specs.declared.Fields.{Fields}
 use Rattle.manual.specs.declared.Answer.{Answer}
@@ -13,7 +13,7 @@ use Rattle.manual.specs.declared.Stop.the-variants.{CutShort, OpcodeUnknown, QR
 use Rattle.manual.specs.declared.Way.{Way}
 use Rattle.manual.specs.declared.Way.the-variants.{Clear, Barred}
 use Rattle.manual.specs.Programs.{Rule}
-use Rattle.manual.specs.Step.{outcome, did}
+use Rattle.manual.specs.Step.{outcome, did, innerStep}
 use Rattle.parts.specs.declared.Core.{Core}
 use Rattle.parts.specs.declared.End.{End}
 use Rattle.parts.specs.declared.End.the-variants.{Gone, Short, NoOpcode, BadQ, Outside, BadDigit, Called}
@@ -66,3 +66,8 @@ pub record Within (c : Core) : Type 0 where
 -- the result r and the storage t afterwards are what the rule of an instruction with those fields makes of c and s
 abbrev pub LeafDoes : Core → List ℕ → Fields → Rule → Went → List ℕ → Type 0
 LeafDoes c s f rule r t = outcome (record { machine = machineOf (r .core); answer = answerAt (r .end) (f .q) (f .r) }) t ≡ did (machineOf c) s rule
+
+-- the result r and the storage t afterwards are what one step makes of c and s; its Q and R bytes are those after the opcode
+abbrev pub StepDoes : Core → List ℕ → Went → List ℕ → Type 0
+StepDoes c s r t =
+    outcome (record { machine = machineOf (r .core); answer = answerAt (r .end) (getD s (c .iar + 1) 0) (getD s (c .iar + 2) 0) }) t ≡ innerStep (machineOf c) s
