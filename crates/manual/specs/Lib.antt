@@ -13,6 +13,7 @@ pub mod Immediate
 pub mod Branches
 pub mod Step
 pub mod Stops
+pub mod When
 pub mod Reads
 pub mod Run
 pub mod Deck
