@@ -1,10 +1,9 @@
 -- A step stops exactly where the order of the stops says, with that stop, and executes where nothing stands in its way.
 -- What carries it: how the stop goes through each form of a program, then one line an operation.
-use mathlib.Core.Path.{_≡_, refl, ap, sym, _∙_}
+use mathlib.Core.Path.{_≡_, refl}
 use mathlib.Core.Bool.{Bool, true, false, cond}
 use mathlib.Core.List.{List}
 use Prim.Native.Nat.{ℕ}
-use lib.ListN.{length}
 use Rattle.manual.specs.declared.Machine.{Machine}
 use Rattle.manual.specs.declared.Stop.{Stop}
 use Rattle.manual.specs.declared.Answer.{Answer}
@@ -25,7 +24,7 @@ use Rattle.manual.specs.Logical.{mvc, clc, alc, slc}
 use Rattle.manual.specs.Registers.{store, load, add, subtract}
 use Rattle.manual.specs.Immediate.{tbn, tbf, sbn, sbf, mvi, cli, sli}
 use Rattle.manual.specs.Branches.{branch, jump, loadAddress, call}
-use Rattle.manual.specs.Step.{Outcome, exec, given, settle, did, innerStep}
+use Rattle.manual.specs.Step.{exec, given, settle, did, innerStep}
 use Rattle.manual.specs.Stops.{fieldsOf, outside, further, barred, barredIn, barredAt}
 use Rattle.manual.proofs.Running.{val-bind, val-leftward, fin-leftward}
 use Rattle.manual.proofs.Fetched.{did-step, did-stop, did-perform}

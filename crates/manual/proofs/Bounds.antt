@@ -13,7 +13,6 @@ use Rattle.manual.specs.declared.Stop.the-variants.{OperandOutside, Digi
 use Rattle.manual.specs.declared.Way.{Way}
 use Rattle.manual.specs.declared.Way.the-variants.{Clear, Barred}
 use Rattle.manual.specs.declared.Answer.{Answer}
-use Rattle.manual.specs.declared.Operation.the-variants.{A}
 use Rattle.manual.specs.declared.Instruction.{Instruction}
 use Rattle.manual.specs.declared.Fields.{Fields}
 use Rattle.manual.specs.declared.Decoded.{Decoded}

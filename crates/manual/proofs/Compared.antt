@@ -3,11 +3,10 @@ use mathlib.Core.Path.{_≡_, refl, sym, _∙_, ap}
 use mathlib.Core.Logic.{_↔_}
 use mathlib.Core.Bool.{true}
 use mathlib.Core.List.{List, [], _∷_, _++_}
-use Prim.Native.Nat.{ℕ, zero, suc, _+_, _-_, _/_, _%_, _^_, _≤_, _<_}
+use Prim.Native.Nat.{ℕ, suc, _+_, _≤_, _<_}
 use native.Mathlib.Decide.{decLt}
-use native.Mathlib.Nat.{pow-succ', suc-inj}
+use native.Mathlib.Nat.{suc-inj}
 use native.Mathlib.Omega.{arith}
-use lib.Dec.{lit<}
 use lib.ListN.{length, getD}
 use borrow.Author.Tests.{lt-ltb, le-ltb, eq-eqb, ne-eqb}
 use Rattle.manual.specs.declared.Machine.{Machine}
@@ -75,6 +74,15 @@ high-told x y = (λ e. go e (order x y), order-high x y)
     go e (same h) = omega (arith, e, order-equal x y h)
     go e (below h) = omega (arith, e, order-low x y h)
     go e (above h) = h
+
+-- an order fits in its three bits
+pub order-small : (x y : ℕ) → orderOf x y < 8
+order-small x y = go (order x y)
+  where
+    go : Order x y → orderOf x y < 8
+    go (same h) = omega (arith, order-equal x y h)
+    go (below h) = omega (arith, order-low x y h)
+    go (above h) = omega (arith, order-high x y h)
 
 -- ---- the rules
 

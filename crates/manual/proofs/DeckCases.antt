@@ -3,7 +3,7 @@
 use Prim.Native.Nat.{ℕ}
 use mathlib.Core.Path.{_≡_, refl}
 use mathlib.Core.List.{List, [], _∷_, _++_}
-use lib.ListN.{replicate, take, length}
+use lib.ListN.{replicate, length}
 use Rattle.manual.specs.declared.Machine.{Machine}
 use Rattle.manual.specs.declared.ReadAnswer.the-variants.{DeckRead}
 use Rattle.manual.specs.Numbers.{readNumber, writeTold}

@@ -1,13 +1,13 @@
 -- A step's rule reads a place if and only if document 01's list has it: no more, no less, for every instruction and stop.
 -- What carries it: how reading goes through each form of a program, then one line an operation.
 use mathlib.Core.Path.{_≡_, refl, ap, sym, _∙_}
-use mathlib.Core.Bool.{Bool, true, false, cond, _&&_, _||_, or-false, or-assoc}
+use mathlib.Core.Bool.{Bool, true, false, cond, _||_, or-false, or-assoc}
 use mathlib.Core.List.{List, [], _∷_, _++_}
-use Prim.Native.Nat.{ℕ, zero, suc, _+_, _-_, _/_, _%_, _≤_, _<_, min}
+use Prim.Native.Nat.{ℕ, zero, suc, _+_, _-_, _/_, _<_, min}
 use native.Mathlib.Omega.{arith}
 use lib.ListN.{length, getD, set}
 use lib.Seq.{getD-set-other}
-use lib.Dec.{leb, ltb, eqb}
+use lib.Dec.{leb, ltb}
 use Rattle.manual.specs.declared.Machine.{Machine}
 use Rattle.manual.specs.declared.Stop.the-variants.{CutShort, QRefused}
 use Rattle.manual.specs.declared.Operation.{Operation}
@@ -23,13 +23,12 @@ use Rattle.manual.specs.declared.Way.{Way}
 use Rattle.manual.specs.declared.Way.the-variants.{Clear, Barred}
 use Rattle.manual.specs.declared.Decoded.{Decoded}
 use Rattle.manual.specs.declared.Decoded.the-variants.{Found, NotFound}
-use Rattle.manual.specs.Places.{Place, mem, reg, same, State, state, look, put}
+use Rattle.manual.specs.Places.{Place, mem, same, State, state, look, put}
 use Rattle.manual.specs.Programs.{Prog, ret, rd, wr, val, fin, reads, _>>=_, rightward, leftward, Out, Given, clear, unless}
 use Rattle.manual.specs.Formats.{formOf, operationOf, allowed}
 use Rattle.manual.specs.Decode.{instructionOf, withQ, decodeNamed, decodeOpcode, decodeOf, fetchNamed, fetchOpcode, fetch}
-use Rattle.manual.specs.Values.{digitsOf}
 use Rattle.manual.specs.Zoned.{putDigits, putZoned, putResult, zaz, combine}
-use Rattle.manual.specs.Edit.{takesDigit, count20, putEdited, endsScan, scan, mvx, ed, itc}
+use Rattle.manual.specs.Edit.{takesDigit, putEdited, endsScan, scan, mvx, ed, itc}
 use Rattle.manual.specs.Logical.{Column, copy, mvc, clc, columns, alc, slc}
 use Rattle.manual.specs.Registers.{store, load, add, subtract}
 use Rattle.manual.specs.Immediate.{tbn, tbf, sbn, sbf, mvi, cli, sli}

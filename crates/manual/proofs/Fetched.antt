@@ -1,14 +1,14 @@
 -- Fetching as a program finds what decoding finds, and changes nothing; so a step is what decoding finds, performed.
 -- What carries it: the bytes read one by one are the storage's, and a form's length holds its operands.
-use mathlib.Core.Path.{_≡_, refl, ap, sym, _∙_}
-use mathlib.Core.Bool.{Bool, true, false, cond, _&&_}
-use mathlib.Core.List.{List, [], _∷_}
+use mathlib.Core.Path.{_≡_, refl, sym, _∙_}
+use mathlib.Core.Bool.{Bool, true, false, cond}
+use mathlib.Core.List.{List, _∷_}
 use Prim.Native.Nat.{ℕ, zero, suc, _+_, _-_, _/_, _%_, _≤_, _<_}
 use native.Mathlib.Omega.{arith}
 use native.Mathlib.Nat.{add-zero}
 use lib.ListN.{length, getD}
-use lib.Dec.{leb, ltb, eqb}
-use borrow.Author.Tests.{leb-true, leb-false, eqb-false, eqb-true}
+use lib.Dec.{leb, ltb}
+use borrow.Author.Tests.{leb-false}
 use Rattle.manual.specs.declared.Machine.{Machine}
 use Rattle.manual.specs.declared.Named.{Named}
 use Rattle.manual.specs.declared.Named.the-variants.{Known, Unknown}
@@ -22,15 +22,14 @@ use Rattle.manual.specs.declared.Stop.the-variants.{CutShort}
 use Rattle.manual.specs.declared.Operation.{Operation}
 use Rattle.manual.specs.declared.Answer.the-variants.{Stopped}
 use Rattle.manual.specs.declared.Instruction.{Instruction}
-use Rattle.manual.specs.declared.Decoded.{Decoded}
 use Rattle.manual.specs.declared.Decoded.the-variants.{Found, NotFound}
-use Rattle.manual.specs.Places.{mem, State, state, look}
+use Rattle.manual.specs.Places.{mem, State, state}
 use Rattle.manual.specs.Programs.{Prog, ret, rd, val, fin, _>>=_, rightward, Out}
 use Rattle.manual.specs.Formats.{baseOf, widthOf, lengthOf, formOf, operationOf, firstBase, jumpBases}
-use Rattle.manual.specs.Decode.{numberAt, operandAt, instructionOf, withQ, decodeNamed, decodeOpcode, decodeOf, fetchNamed, fetchOpcode, fetch}
+use Rattle.manual.specs.Decode.{numberAt, instructionOf, withQ, decodeNamed, decodeOpcode, decodeOf, fetchNamed, fetchOpcode, fetch}
 use Rattle.manual.specs.Step.{did, step, follow, perform, exec, addressed, ended, innerStep}
 use Rattle.manual.specs.Stops.{addressOf, fieldsOf}
-use Rattle.manual.proofs.Running.{val-bind, fin-bind, from, did-from, from-bind, from-rd, from-stop, doing, rightward-at, fin-rightward}
+use Rattle.manual.proofs.Running.{val-bind, fin-bind, from, did-from, from-bind, from-rd, doing, rightward-at, fin-rightward}
 
 -- ---- the instruction's bytes hold its operands
 

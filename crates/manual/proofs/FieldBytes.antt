@@ -1,4 +1,4 @@
--- Laws on fields: the bytes inside and outside, the number they are, and storage with a field put in it. What carries it: induction on the count of bytes, from the right.
+-- Laws on fields: the bytes inside and outside, their number, and storage with a field put in it. What carries it: induction on the count of bytes, from the right.
 use mathlib.Core.Path.{_≡_, refl, sym, _∙_, ap}
 use mathlib.Core.List.{List, [], _∷_}
 use mathlib.Core.Logic.{_⊎_, inl, inr, ⊎-elim, _↔_}

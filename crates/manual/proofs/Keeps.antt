@@ -11,7 +11,6 @@ use Rattle.manual.specs.declared.Refusal.{Refusal}
 use Rattle.manual.specs.declared.Refusal.the-variants.{SizeRefused, BudgetRefused, StatusRefused}
 use Rattle.manual.specs.declared.Answer.{Answer}
 use Rattle.manual.specs.declared.Answer.the-variants.{Executed, Refused, Stopped}
-use Rattle.manual.specs.declared.Operation.the-variants.{A}
 use Rattle.manual.specs.Numbers.{numberOf, told}
 use Rattle.manual.specs.Places.{Place, mem, reg, State, state, look, put}
 use Rattle.manual.specs.Programs.{Prog, ret, rd, wr, val, fin, Out, stop, go, Rule}

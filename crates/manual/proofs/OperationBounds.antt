@@ -33,8 +33,9 @@ use Rattle.manual.specs.Registers.{isStatus, store, load, add, subtract}
 use Rattle.manual.specs.Immediate.{tested, changed, tbn, tbf, sbn, sbf, mvi, cli, sli}
 use Rattle.manual.specs.Branches.{taken, afterTest, branch, jump, loadAddress, call}
 use Rattle.manual.specs.Step.{exec, based, addressed, fields, perform, follow, step}
-use Rattle.manual.proofs.Status.{pick, below, order-small, sign-small, order-below, test-below, sum-below, difference-below, zoned-below, loaded-below, after-below}
+use Rattle.manual.proofs.Status.{pick, below, sign-small, order-below, test-below, sum-below, difference-below, zoned-below, loaded-below, after-below}
 use Rattle.manual.proofs.FieldBytes.{Bytes, cons-below}
+use Rattle.manual.proofs.Compared.{order-small}
 use Rattle.manual.proofs.Sums.{byte-added, byte-subtracted}
 use Rattle.manual.proofs.Bounds.{BoundedStop, BoundedOut, BoundedFields, BoundedInstruction, BoundedDecoded, Keeps, giving, reading, writing, keeps-bind, keeps-cond, BoundedWay, way-reach, way-reachRight, way-source, way-digits, way-both, keeps-unless}
 

@@ -1,11 +1,11 @@
 -- How a program runs, form by form: equations for `simp`, with `val`, `fin` and `did` kept shut. What carries it: induction on the program, once.
 use mathlib.Core.Path.{_≡_, refl, sym, _∙_, ap}
 use mathlib.Core.Bool.{Bool, true, false, cond, _&&_, false≢true}
-use mathlib.Core.List.{List, [], _∷_}
+use mathlib.Core.List.{List, _∷_}
 use Prim.Native.Nat.{ℕ, zero, suc, _+_, _-_, _≤_, _<_}
 use native.Mathlib.Omega.{arith}
 use native.Mathlib.Nat.{add-zero, le-of-suc-le-suc, not-suc-le-zero}
-use lib.ListN.{length, getD}
+use lib.ListN.{getD}
 use lib.Dec.{ltb, leb}
 use borrow.Author.Tests.{ltb-true, leb-true}
 use Rattle.manual.specs.declared.Machine.{Machine}
@@ -15,7 +15,7 @@ use Rattle.manual.specs.declared.Stop.the-variants.{OperandOutside}
 use Rattle.manual.specs.declared.Way.{Way}
 use Rattle.manual.specs.declared.Way.the-variants.{Clear, Barred}
 use Rattle.manual.specs.Places.{Place, State, state, look, put}
-use Rattle.manual.specs.Programs.{Prog, ret, rd, wr, val, fin, _>>=_, rightward, leftward, Out, stop, go, Given, Rule, clear, unless, andThen}
+use Rattle.manual.specs.Programs.{Prog, ret, rd, wr, val, fin, _>>=_, rightward, leftward, Out, stop, go, Rule, clear, unless, andThen}
 use Rattle.manual.specs.Formats.{reach, reachRight}
 use Rattle.manual.specs.Values.{bytesOf}
 use Rattle.manual.specs.Step.{Outcome, ended, moved, settle, given, did}

@@ -3,11 +3,11 @@ use mathlib.Core.Path.{_≡_, refl, ap}
 use mathlib.Core.Bool.{Bool, true, false, cond, not, _||_}
 use Prim.Native.Nat.{ℕ, _+_, _-_, _/_, _%_, _<_}
 use native.Mathlib.Omega.{arith}
-use lib.Dec.{eqb, ltb}
+use lib.Dec.{eqb}
 use lib.IntN.{ℤ, natAbs}
 use borrow.Author.Tests.{eq-eqb, ne-eqb, eqb-true, eqb-false}
 use Rattle.manual.specs.declared.Columns.{Columns}
-use Rattle.manual.specs.TheMachine.{binaryOverflow, testFalse, decimalOverflow, equal, low, high, isOn, turnOn, turnOff, setOrder, orderOf}
+use Rattle.manual.specs.TheMachine.{binaryOverflow, testFalse, decimalOverflow, equal, low, high, isOn, turnOn, turnOff, setOrder}
 use Rattle.manual.specs.Values.{overflows, negative, signOrder, cutTo}
 use Rattle.manual.specs.Zoned.{zonedStatus}
 use Rattle.manual.specs.Logical.{sumStatus, differenceStatus}
@@ -32,10 +32,6 @@ order-fits z t = one-below z t equal low high (omega arith) (omega arith) (omega
 
 pub borrow-fits : (z t : Bool) → cond z equal (cond t high low) < 8
 borrow-fits z t = one-below z t equal high low (omega arith) (omega arith) (omega arith)
-
-pub order-small : (x y : ℕ) → orderOf x y < 8
-unfolding orderOf
-order-small x y = order-fits (eqb x y) (ltb x y)
 
 pub sign-small : (x : ℤ) → signOrder x < 8
 unfolding signOrder

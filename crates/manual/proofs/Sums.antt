@@ -4,13 +4,13 @@ use mathlib.Core.Logic.{_⊎_, inl, inr}
 use mathlib.Core.Bool.{Bool, true, false, cond, not, _&&_, and-assoc, and-true, Bool·not-not}
 use mathlib.Core.List.{List, [], _∷_}
 use Prim.Native.Nat.{ℕ, zero, suc, _+_, _-_, _*_, _/_, _%_, _^_, _≤_, _<_}
-use native.Mathlib.Decide.{decLt, ℕ-discrete}
+use native.Mathlib.Decide.{decLt}
 use native.Mathlib.Nat.{pow-succ', mul-left-comm, mod-lt, mod-eq-of-lt, add-mul-mod-self-right, add-mod-right, suc-mul, add-zero}
 use native.Mathlib.Omega.{arith}
 use lib.Dec.{eqb, leb, ltb, lit<, lit≤}
 use lib.ListN.{length, getD, set, length-set}
 use lib.Seq.{getD-set-same, getD-set-other}
-use borrow.Author.Tests.{lt-ltb, le-ltb, le-leb, lt-leb, eq-eqb, ne-eqb, eqb-true, eqb-false}
+use borrow.Author.Tests.{lt-ltb, le-ltb, le-leb, lt-leb, ne-eqb}
 use Rattle.manual.specs.declared.Machine.{Machine}
 use Rattle.manual.specs.declared.Fields.{Fields}
 use Rattle.manual.specs.declared.Columns.{Columns}
@@ -26,8 +26,8 @@ use Rattle.manual.specs.Step.{Outcome, ended, moved, did}
 use Rattle.manual.proofs.Running.{doing, unless-clear, both-clear, reach-clear}
 use Rattle.manual.proofs.FieldBytes.{Bytes, Outside, outside-apart, outside-left, outside-from, set-below}
 use Rattle.manual.proofs.FieldBytes.{bytes-of, bytes-beside, left-stays, left-inside, number-more, number-below, field-below}
-use Rattle.manual.proofs.Status.{order-fits, order-small, order-set, order-leaves, overflow-same, above-same, turned}
-use Rattle.manual.proofs.Compared.{order-equal, order-low, order-high}
+use Rattle.manual.proofs.Status.{order-fits, order-set, order-leaves, overflow-same, above-same, turned}
+use Rattle.manual.proofs.Compared.{order-equal, order-low, order-high, order-small}
 
 -- the column at the addresses a and b
 abbrev pub columnAt : (ℕ → ℕ → ℕ → Column) → List ℕ → ℕ → ℕ → Columns → Column

@@ -1,14 +1,12 @@
 -- A step's rule writes exactly the places that document 01's list has, in that order; a step that stops writes none.
 -- What carries it: how writing goes through each form of a program, then one line an operation.
-use mathlib.Core.Path.{_≡_, refl, ap, sym, _∙_}
+use mathlib.Core.Path.{_≡_, refl, ap, _∙_}
 use mathlib.Core.Bool.{Bool, true, false, cond, _&&_}
 use mathlib.Core.List.{List, [], _∷_, _++_}
-use Prim.Native.Nat.{ℕ, zero, suc, _+_, _-_, _/_, _%_, _<_}
+use Prim.Native.Nat.{ℕ, zero, suc, _+_, _-_, _/_}
 use native.Mathlib.Omega.{arith}
-use lib.ListN.{length, getD, set, drop}
-use lib.Dec.{leb, ltb, eqb}
+use lib.ListN.{length, getD, set}
 use Rattle.manual.specs.declared.Machine.{Machine}
-use Rattle.manual.specs.declared.Stop.the-variants.{CutShort}
 use Rattle.manual.specs.declared.Operation.{Operation}
 use Rattle.manual.specs.declared.Operation.the-variants.{Zaz, Az, Sz, Mvx, Ed, Itc, Mvc, Clc, Alc, Slc, St, L, A, S, Tbn, Tbf, Sbn, Sbf, Mvi, Cli, Sli, Bc, Jc, La, Svc}
 use Rattle.manual.specs.declared.Base.{Base}
@@ -22,9 +20,9 @@ use Rattle.manual.specs.declared.Way.{Way}
 use Rattle.manual.specs.declared.Way.the-variants.{Clear, Barred}
 use Rattle.manual.specs.declared.Decoded.{Decoded}
 use Rattle.manual.specs.declared.Decoded.the-variants.{Found, NotFound}
-use Rattle.manual.specs.Places.{Place, mem, reg, State, state, look, put}
+use Rattle.manual.specs.Places.{Place, mem, State, state, look, put}
 use Rattle.manual.specs.Programs.{Prog, ret, rd, wr, val, fin, wrote, _>>=_, rightward, leftward, Out, Given, clear, unless}
-use Rattle.manual.specs.Decode.{withQ, decodeOf, fetchNamed, fetchOpcode, fetch}
+use Rattle.manual.specs.Decode.{decodeOf, fetchNamed, fetch}
 use Rattle.manual.specs.Zoned.{putDigits, putZoned, putResult, zaz, combine}
 use Rattle.manual.specs.Edit.{takesDigit, putEdited, endsScan, scan, mvx, ed, itc}
 use Rattle.manual.specs.Logical.{Column, copy, mvc, clc, columns, alc, slc}

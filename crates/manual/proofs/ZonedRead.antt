@@ -2,17 +2,15 @@
 use mathlib.Core.Path.{_≡_, refl, sym, _∙_, ap}
 use mathlib.Core.Bool.{Bool, true, false, cond, not, _&&_, _||_, false≢true}
 use mathlib.Core.List.{List}
-use mathlib.Core.Logic.{⊎-elim, _↔_, _≢_}
+use mathlib.Core.Logic.{_↔_, _≢_}
 use Prim.Native.Nat.{ℕ, zero, suc, _+_, _-_, _*_, _/_, _%_, _^_, _≤_, _<_}
 use native.Mathlib.Omega.{arith}
-use native.Mathlib.Decide.{decLt, decLe}
-use native.Mathlib.Numerals.{add-one}
-use native.Mathlib.Nat.{eq-or-lt-of-le, zero-mod, mod-mod, mod-eq-of-lt, sub-zero}
+use native.Mathlib.Nat.{zero-mod, mod-mod, mod-eq-of-lt, sub-zero}
 use lib.ListN.{length, getD, set, length-set}
-use lib.Seq.{getD-set-same, getD-set-other, ext-getD}
+use lib.Seq.{getD-set-same, getD-set-other}
 use lib.Dec.{eqb, leb, eqb·suc-zero}
 use lib.IntN.{ℤ, pos, negsuc, natAbs, pos-ne-negsuc, _+ℤ_, _-ℤ_}
-use borrow.Author.Tests.{leb-true, leb-false, le-leb, eqb-true, eqb-false, eq-eqb}
+use borrow.Author.Tests.{leb-true, leb-false, le-leb}
 use Rattle.manual.specs.declared.Machine.{Machine}
 use Rattle.manual.specs.declared.Fields.{Fields}
 use Rattle.manual.specs.declared.Answer.{Answer}
@@ -20,7 +18,7 @@ use Rattle.manual.specs.declared.Answer.the-variants.{Executed}
 use Rattle.manual.specs.declared.Way.the-variants.{Clear}
 use Rattle.manual.specs.Places.{state}
 use Rattle.manual.specs.Programs.{fin, clear, andThen}
-use Rattle.manual.specs.TheMachine.{decimalOverflow, equal, low, high, isOn, turnOn, setOrder}
+use Rattle.manual.specs.TheMachine.{decimalOverflow, equal, low, high, isOn}
 use Rattle.manual.specs.Values.{bytesOf, digit, zone, size, minus, signed, value, allDigits, digitsOf, negative, cut, overflows, leftMinus, cutTo, signOrder}
 use Rattle.manual.specs.Zoned.{l1, l2, zonedReach, putDigits, putZoned, zonedStatus, putResult, zaz, combine, az, sz}
 use Rattle.manual.specs.Step.{Outcome, ended, moved, given, did, Gives}
