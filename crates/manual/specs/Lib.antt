@@ -17,4 +17,5 @@ pub mod When
 pub mod Reads
 pub mod Run
 pub mod Deck
+pub mod Runner
 pub mod Morning
