@@ -1,0 +1,3 @@
+mod Rules
+mod Sums
+mod Statuses

@@ -1,0 +1,63 @@
+-- The status after L, BC and JC as the code reckons it. What carries it: arithmetic, and one computed test of every status under every pick.
+use mathlib.Core.Path.{_≡_, sym, _∙_, subst}
+use mathlib.Core.Bool.{Bool, true, false, _&&_}
+use mathlib.Core.Logic.{⊎-elim}
+use Prim.Native.Nat.{ℕ, zero, suc, _+_, _-_, _*_, _/_, _%_, _<_}
+use native.Mathlib.Omega.{arith}
+use native.Mathlib.Nat.{le-of-suc-le-suc, not-suc-le-zero, eq-or-lt-of-le}
+use lib.Bits.{bitAnd}
+use lib.Dec.{T, eqb, eqb→eq}
+use borrow.Author.Tests.{eq-eqb, ne-eqb}
+use Rattle.manual.specs.TheMachine.{turnOff, setOrder}
+use Rattle.manual.specs.Registers.{loadedStatus}
+use Rattle.manual.specs.Branches.{afterTest}
+
+both : (a b : Bool) → T (a && b) → T a × T b
+both true b t = (tt, t)
+both false b t = absurd t
+
+-- a test that holds of every number below n
+abbrev allBelow : (ℕ → Bool) → ℕ → Bool
+allBelow p zero = true
+allBelow p (suc n) = p n && allBelow p n
+
+all-at : (p : ℕ → Bool) (n : ℕ) → T (allBelow p n) → (k : ℕ) → k < n → T (p k)
+all-at p zero t k h = absurd (not-suc-le-zero h)
+all-at p (suc n) t k h =
+    ⊎-elim (λ e. subst (λ (m : ℕ). T (p m)) (sym e) (both (p n) (allBelow p n) t .0))
+    (λ l. all-at p n (both (p n) (allBelow p n) t .1) k l)
+    (eq-or-lt-of-le (le-of-suc-le-suc h))
+
+-- test false and decimal overflow picked as the two bits of k
+abbrev agrees : ℕ → ℕ → Bool
+agrees k status = eqb (bitAnd status (255 - k * 8)) (afterTest (k * 8) status)
+
+computed : T (allBelow (λ k. allBelow (agrees k) 64) 4)
+unfolding afterTest turnOff
+computed = tt
+
+-- the Q byte tells no more than those two bits
+only-picked : (q status : ℕ) → afterTest q status ≡ afterTest (q / 8 % 4 * 8) status
+unfolding afterTest
+only-picked q status =
+    let t : q / 16 % 2 ≡ q / 8 % 4 * 8 / 16 % 2 = omega arith in
+    let d : q / 8 % 2 ≡ q / 8 % 4 * 8 / 8 % 2 = omega arith in
+    rw (t, d)
+
+pub after : (q status : ℕ) → status < 64 → bitAnd status (255 - q / 8 % 4 * 8) ≡ afterTest q status
+after q status h =
+    eqb→eq _ _ (all-at (agrees (q / 8 % 4)) 64 (all-at (λ k. allBelow (agrees k) 64) 4 computed (q / 8 % 4) (omega arith)) status h) ∙ sym (only-picked q status)
+
+-- ---- L of the status
+
+pub loaded-equal : (b : ℕ) → b % 2 ≡ 1 → b % 64 / 8 * 8 + 1 ≡ loadedStatus b
+unfolding loadedStatus setOrder
+loaded-equal b e = let i : b / 1 % 2 ≡ 1 = omega arith in rw (eq-eqb _ _ i)
+
+pub loaded-low : (b : ℕ) → (b % 2 ≡ 1 → ⊥) → b / 2 % 2 ≡ 1 → b % 64 / 8 * 8 + 2 ≡ loadedStatus b
+unfolding loadedStatus setOrder
+loaded-low b n e = let i : b / 1 % 2 ≡ 1 → ⊥ = λ h. n (omega arith) in rw (ne-eqb _ _ i, eq-eqb _ _ e)
+
+pub loaded-high : (b : ℕ) → (b % 2 ≡ 1 → ⊥) → (b / 2 % 2 ≡ 1 → ⊥) → b % 64 / 8 * 8 + 4 ≡ loadedStatus b
+unfolding loadedStatus setOrder
+loaded-high b n e = let i : b / 1 % 2 ≡ 1 → ⊥ = λ h. n (omega arith) in rw (ne-eqb _ _ i, ne-eqb _ _ e)
