@@ -1,3 +1,3 @@
 mod Turns
-mod Fields
+mod TwoFields
 mod Rules

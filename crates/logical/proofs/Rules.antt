@@ -1,12 +1,12 @@
 -- Where the operands are reached, each rule comes to what its leaf does; else it stops as the leaf does. What carries it: `goes` and `stops`.
-use mathlib.Core.Path.{_≡_, refl, _∙_, sym}
+use mathlib.Core.Path.{_≡_, _∙_, sym}
 use mathlib.Core.Bool.{Bool, true, false}
 use mathlib.Core.List.{List}
-use Prim.Native.Nat.{ℕ, _+_, _-_, _%_, _<_, _≤_}
+use Prim.Native.Nat.{ℕ, _+_, _<_, _≤_}
 use lib.ListN.{length, getD, set}
 use Rattle.manual.specs.declared.Fields.{Fields}
-use Rattle.manual.specs.Places.{mem, state}
-use Rattle.manual.specs.Programs.{Prog, ret, rd, wr, _>>=_, val, fin, Out, go, Given, unless, andThen}
+use Rattle.manual.specs.Places.{state}
+use Rattle.manual.specs.Programs.{Prog, ret, _>>=_, val, fin, Out, go, Given, unless, andThen}
 use Rattle.manual.specs.TheMachine.{setOrder, orderOf}
 use Rattle.manual.specs.Formats.{reach}
 use Rattle.manual.specs.Values.{bytesOf, number}

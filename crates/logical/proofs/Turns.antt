@@ -2,7 +2,7 @@
 use mathlib.Core.Path.{_≡_, refl}
 use mathlib.Core.Bool.{cond}
 use mathlib.Core.List.{List}
-use Prim.Native.Nat.{ℕ, suc, _+_, _-_, _/_, _%_, _<_, _≤_}
+use Prim.Native.Nat.{ℕ, suc, _+_, _-_, _/_, _<_, _≤_}
 use native.Mathlib.Decide.{decLt}
 use native.Mathlib.Nat.{sub-zero, sub-add-eq}
 use native.Mathlib.Omega.{arith}
@@ -10,7 +10,6 @@ use lib.Dec.{ltb}
 use lib.ListN.{getD, set}
 use borrow.Author.Tests.{lt-ltb, le-ltb}
 use Rattle.manual.specs.declared.Columns.{Columns}
-use Rattle.manual.specs.Places.{state}
 use Rattle.manual.specs.Programs.{Prog, val, fin}
 use Rattle.manual.specs.Logical.{Column, copy, columns, subtracted}
 use Rattle.manual.specs.Step.{Gives}

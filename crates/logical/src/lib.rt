@@ -2,8 +2,8 @@
 ghost use mathlib.Core.Path.{_≡_};
 ghost use mathlib.Core.Logic.{_↔_};
 ghost use mathlib.Core.Bool.{true};
-ghost use Prim.Native.Nat.{_+_, _-_, _%_, _/_, _<_, _≤_};
-ghost use lib.ListN.{length, getD};
+ghost use Prim.Native.Nat.{_+_, _-_, _<_, _≤_};
+ghost use lib.ListN.{length};
 ghost use Rattle.manual.specs.TheMachine.{orderOf};
 ghost use Rattle.manual.specs.Values.{bytesOf, number};
 ghost use Rattle.manual.specs.Logical.{copy, mvc, clc, columns, added, subtracted, fresh, alc, slc};
@@ -279,11 +279,11 @@ pub fn sli(c: Core, s: &mut [u8], f: Fields) -> Went
         let t = column_difference(s[a], f.q, 0);
         let low = t % 256;
         parts::put_byte(s, a, low as u8);
-        let k = Columns {
+        let column = Columns {
             over: 1 - t / 256,
             clear: low == 0,
         };
-        return parts::gone(c, f.next, parts::difference_status(c.status, k));
+        return parts::gone(c, f.next, parts::difference_status(c.status, column));
     }
     parts::stopped(c, end)
 }

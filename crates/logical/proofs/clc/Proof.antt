@@ -1,4 +1,4 @@
--- `logical::clc` does what its rule says.
+-- `logical::clc` does what its rule says. What carries it: `field_order` is the order of the two numbers.
 use borrow.Author.Needs.{needs}
 use Rattle.manual.specs.Logical.{clc}
 use Rattle.logical.proofs.Rules.{both-in, both-stops, clc-goes}
@@ -13,7 +13,8 @@ returns c =
     let o = c .before .before in
     let t = o .before in
     let x = t .before .before .before .before .before .args in
-    rw (c .gone .ensures, c .before .set-order .ensures, o .field-order .ensures .0) (clc-goes (x .f) _ _ _ _ (t .before .before .reach-both .ensures) (t .before .is-gone .ensures) (t .if1 .taken))
+    rw (c .gone .ensures, c .before .set-order .ensures, o .field-order .ensures .0)
+    (clc-goes (x .f) _ _ _ _ (t .before .before .reach-both .ensures) (t .before .is-gone .ensures) (t .if1 .taken))
 
 returns-2 : tie.Need-returns-2
 unfolding clc
@@ -26,4 +27,5 @@ pub clc-spec : {M : Type 1} → statement M
 clc-spec =
     tie.close
     (tie.spec
-    (λ c. search needs) (λ c. search needs) (λ c κs. search needs) (λ c κs. search needs) field-order-requires (λ c κs. search needs) (λ c κs. search needs) returns (λ c κs. search needs) returns-2)
+    (λ c. search needs) (λ c. search needs) (λ c κs. search needs) (λ c κs. search needs) field-order-requires (λ c κs. search needs)
+    (λ c κs. search needs) returns (λ c κs. search needs) returns-2)

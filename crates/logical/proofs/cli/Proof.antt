@@ -1,4 +1,4 @@
--- `logical::cli` does what its rule says.
+-- `logical::cli` does what its rule says. What carries it: `order_of` is the rule's order.
 use borrow.Author.Needs.{needs}
 use Rattle.manual.specs.Immediate.{cli}
 use Rattle.logical.proofs.Rules.{one-in, one-stops, one-tested}
@@ -29,4 +29,6 @@ returns-2 c =
 pub cli-spec : {M : Type 1} → statement M
 cli-spec =
     tie.close
-    (tie.spec (λ c κs. search needs) (λ c κs. search needs) shared-slice-read-wide (λ c κs. search needs) (λ c κs. search needs) (λ c κs. search needs) (λ c κs. search needs) (λ c κs. search needs) returns (λ c κs. search needs) returns-2)
+    (tie.spec
+    (λ c κs. search needs) (λ c κs. search needs) shared-slice-read-wide (λ c κs. search needs) (λ c κs. search needs) (λ c κs. search needs)
+    (λ c κs. search needs) (λ c κs. search needs) returns (λ c κs. search needs) returns-2)

@@ -1,6 +1,6 @@
--- `logical::copy_left`. The invariant: what is left to copy gives what the whole copy gives.
+-- `logical::copy_left` gives the rule's copy. What carries it, as the invariant: what is left to copy gives what the whole copy gives.
 use mathlib.Core.Path.{_≡_, refl, ap, _∙_}
-use Prim.Native.Nat.{_+_, _-_, _≤_, _<_}
+use Prim.Native.Nat.{_-_, _≤_}
 use native.Mathlib.Omega.{arith}
 use lib.ListN.{length, length-set}
 use Rattle.manual.specs.Logical.{copy}

@@ -1,4 +1,4 @@
--- `logical::field_order`: fields that are the same have one number.
+-- `logical::field_order`: the order of two numbers. What carries it: fields that are the same have one number.
 use borrow.Author.Needs.{needs}
 use mathlib.Core.Path.{sym, ap}
 use native.Mathlib.Omega.{arith}

@@ -1,4 +1,4 @@
--- `logical::mvi` does what its rule says.
+-- `logical::mvi` does what its rule says. What carries it: one store, of Q.
 use borrow.Author.Needs.{needs}
 use Rattle.manual.specs.Immediate.{mvi}
 use Rattle.logical.proofs.Rules.{one-in, one-stops, mvi-goes}
@@ -26,4 +26,5 @@ pub mvi-spec : {M : Type 1} → statement M
 mvi-spec =
     tie.close
     (tie.spec
-    (λ c κs. search needs) (λ c κs. search needs) put-byte-requires (λ c κs. search needs) (λ c. search needs) returns (λ c κs. search needs) returns-2)
+    (λ c κs. search needs) (λ c κs. search needs) put-byte-requires (λ c κs. search needs) (λ c. search needs) returns (λ c κs. search needs)
+    returns-2)

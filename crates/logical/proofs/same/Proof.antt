@@ -1,8 +1,8 @@
--- `logical::same`. The invariant: the fields are the same where all bytes so far were alike and what is left of them is the same.
+-- `logical::same` tells fields that are the same. What carries it, as the invariant: all bytes so far were alike and the rest is the same, or they aren't.
 use mathlib.Core.Logic.{⊎-elim}
-use Prim.Native.Nat.{_+_, _-_, _≤_, _<_}
+use Prim.Native.Nat.{_-_, _≤_}
 use native.Mathlib.Omega.{arith}
-use Rattle.logical.proofs.Fields.{Told, told-start, told-alike, told-differs, told-end}
+use Rattle.logical.proofs.TwoFields.{Told, told-start, told-alike, told-differs, told-end}
 use Rattle.logical.proofs.same.Statement.{statement}
 use Rattle.logical.proofs.same.Tie as tie
 
@@ -32,4 +32,5 @@ pub same-spec : {M : Type 1} → statement M
 same-spec =
     tie.close
     (tie.spec
-    Inv-loop μ-loop loop-holds (λ c. omega arith) (λ c. omega arith) (λ c. omega arith) (λ c. omega arith) (λ c. omega arith) (λ c. omega arith) loop-again returns)
+    Inv-loop μ-loop loop-holds (λ c. omega arith) (λ c. omega arith) (λ c. omega arith) (λ c. omega arith) (λ c. omega arith) (λ c. omega arith)
+    loop-again returns)

@@ -1,12 +1,12 @@
--- `logical::scan`. The invariant: the bytes from i on, to the left, are the same in both fields.
-use mathlib.Core.Path.{_≡_, refl, sym, ap, _∙_}
-use Prim.Native.Nat.{_+_, _-_, _≤_, _<_}
+-- `logical::scan`: the order of two numbers. What carries it, as the invariant: the bytes from i on, to the left, are the same in both fields.
+use mathlib.Core.Path.{sym, ap}
+use Prim.Native.Nat.{_-_, _≤_}
 use native.Mathlib.Omega.{arith}
 use borrow.Author.Needs.{needs}
 use Rattle.manual.specs.Values.{number}
 use Rattle.manual.proofs.Compared.{order-equal}
 use Rattle.manual.proofs.FieldBytes.{Bytes}
-use Rattle.logical.proofs.Fields.{Same, same-turn, same-none, same-left, same-whole, order-at}
+use Rattle.logical.proofs.TwoFields.{Same, same-turn, same-none, same-left, same-whole, order-at}
 use Rattle.logical.proofs.scan.Statement.{statement}
 use Rattle.logical.proofs.scan.Tie as tie
 
@@ -45,5 +45,6 @@ pub scan-spec : {M : Type 1} → statement M
 scan-spec =
     tie.close
     (tie.spec
-    Inv-loop μ-loop loop-holds (λ c. omega arith) (λ c. omega arith) (λ c. omega arith) (λ c. omega arith) (λ c. omega arith) (λ c κs. search needs) (λ c κs. search needs) (λ c κs. search needs)
+    Inv-loop μ-loop loop-holds (λ c. omega arith) (λ c. omega arith) (λ c. omega arith) (λ c. omega arith) (λ c. omega arith) (λ c κs. search needs)
+    (λ c κs. search needs) (λ c κs. search needs)
     returns (λ c. omega arith) loop-again returns-2)

@@ -1,6 +1,5 @@
--- `logical::sli` does what its rule says: one column of SLC.
+-- `logical::sli` does what its rule says. What carries it: one column of SLC.
 use borrow.Author.Needs.{needs}
-use native.Mathlib.Omega.{arith}
 use Rattle.manual.specs.Immediate.{sli}
 use Rattle.logical.proofs.Rules.{one-in, one-stops, sli-goes}
 use Rattle.logical.proofs.Turns.{borrowed}
@@ -34,4 +33,5 @@ pub sli-spec : {M : Type 1} → statement M
 sli-spec =
     tie.close
     (tie.spec
-    (λ c κs. search needs) (λ c κs. search needs) slice-read-column-difference (λ c κs. search needs) (λ c. search needs) put-byte-requires (λ c. search needs) (λ c κs. search needs) (λ c κs. search needs) (λ c. search needs) returns (λ c κs. search needs) returns-2)
+    (λ c κs. search needs) (λ c κs. search needs) slice-read-column-difference (λ c κs. search needs) (λ c. search needs) put-byte-requires
+    (λ c. search needs) (λ c κs. search needs) (λ c κs. search needs) (λ c. search needs) returns (λ c κs. search needs) returns-2)

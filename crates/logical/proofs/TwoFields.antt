@@ -1,8 +1,8 @@
--- Two fields byte by byte: they are the same where all their bytes are, and the leftmost byte that differs decides. What carries it: a field is a byte and the bytes left of it.
+-- Two fields byte by byte: when they are the same, and that the leftmost byte that differs decides. What carries it: a field is a byte and the bytes left of it.
 use mathlib.Core.Path.{_≡_, refl, sym, ap, _∙_}
 use mathlib.Core.Logic.{_↔_}
 use mathlib.Core.Bool.{Bool, true, false, false≢true}
-use mathlib.Core.List.{List, [], _∷_, _++_}
+use mathlib.Core.List.{List, _∷_, _++_}
 use Prim.Native.Nat.{ℕ, zero, suc, _+_, _-_, _<_, _≤_}
 use native.Mathlib.Nat.{sub-zero, suc-sub-suc, sub-add-eq, le-of-suc-le-suc, not-suc-le-zero}
 use native.Mathlib.Omega.{arith}

@@ -1,0 +1,4 @@
+pub mod Taking
+pub mod Editing
+pub mod Scanning
+pub mod Rules
