@@ -1,0 +1,3 @@
+mod Tabled
+mod Rest
+mod Arms
