@@ -4,11 +4,11 @@ use Prim.Native.Nat.{ℕ, suc, _+_, _≤_, _<_, _-_, _*_, _/_, pred}
 use mathlib.Core.Bool.{Bool, true, false, cond, not, Bool·beq}
 use mathlib.Core.List.{List}
 use mathlib.Core.Logic.{_⊎_, ⊎-elim}
-use mathlib.Core.Path.{_≡_, refl, ap, sym, _∙_}
+use mathlib.Core.Path.{_≡_, refl, ap, _∙_}
 use native.Mathlib.Nat.{add-zero}
 use native.Mathlib.Omega.{arith}
-use borrow.Author.Tests.{eqb-true, eq-eqb, ne-eqb, lt-ltb, le-ltb, not-true, not-false}
-use lib.Dec.{eqb, leb, ltb}
+use borrow.Author.Tests.{ne-eqb, lt-ltb, le-ltb, not-true, not-false}
+use lib.Dec.{eqb, ltb}
 use lib.ListN.{length, getD, take, drop, length-drop}
 use lib.Seq.{length-take-le, drop-drop, take-all, getD-drop}
 use Rattle.manual.specs.declared.DeckFault.{DeckFault}
@@ -16,9 +16,9 @@ use Rattle.manual.specs.declared.DeckFault.the-variants.{SizeNotTheDecks, Statu
 use Rattle.manual.specs.declared.ReadAnswer.{ReadAnswer}
 use Rattle.manual.specs.declared.ReadAnswer.the-variants.{DeckRead, DeckRefused}
 use Rattle.manual.specs.TheMachine.{statusAllowed}
-use Rattle.manual.specs.Deck.{recordLength, provided, recordAnswer, firstAnswer, pageAnswer, laterAnswer, deckAnswer, over, paged}
+use Rattle.manual.specs.Deck.{provided, recordAnswer, firstAnswer, pageAnswer, laterAnswer, deckAnswer, over, paged}
 use Rattle.manual.proofs.Pages.{length-over}
-use Rattle.manual.proofs.DeckRecords.{Asked, asked, asked-good, asked-more, andMore, first-more, PageAt, EndAt, laterRecord, later-is, later-at, later-more, accepted, PageThen, later-cases}
+use Rattle.manual.proofs.DeckRecords.{asked, asked-good, asked-more, andMore, first-more, PageAt, EndAt, laterRecord, later-is, later-at, later-more, accepted, PageThen, later-cases}
 
 -- ---- the tests of a record
 

@@ -1,5 +1,5 @@
 -- The turns of the writer's loops, and the parts of a deck put one behind the other. What carries it: bytes put right behind others (`over-over`).
-use Prim.Native.Nat.{ℕ, _+_, _≤_, _<_, _-_, _*_, _/_}
+use Prim.Native.Nat.{ℕ, _+_, _≤_, _<_, _-_, _/_}
 use mathlib.Core.Bool.{false}
 use mathlib.Core.List.{List, [], _∷_, _++_}
 use mathlib.Core.Path.{_≡_, _∙_}

@@ -4,13 +4,13 @@ ghost use Prim.Native.Nat.{_+_, _≤_, _<_, _*_, _/_};
 ghost use lib.ListN.{length, replicate};
 ghost use Rattle.manual.specs.Deck.{allZero, over, wordAt};
 
-pub fn wide(x: u8) -> usize
+pub(crate) fn wide(x: u8) -> usize
     ensures { λ r. ⌜ (r ≡ x) × (r < 256) ⌝ }
 {
     x as usize
 }
 
-pub fn high(x: u16) -> u8
+pub(crate) fn high(x: u16) -> u8
     ensures { λ r. ⌜ r ≡ x / 256 ⌝ }
 {
     (x / 256) as u8
@@ -22,14 +22,14 @@ fn joined(high: u8, low: u8) -> u16
     (high as u16) * 256 + (low as u16)
 }
 
-pub fn word(d: &[u8], at: usize) -> u16
+pub(crate) fn word(d: &[u8], at: usize) -> u16
     requires { ⌜ at + 1 < length (now d) ⌝ }
     ensures { λ r. ⌜ r ≡ wordAt (now (d .entry)) at ⌝ }
 {
     joined(d[at], d[at + 1])
 }
 
-pub fn all_zero(page: &[u8]) -> bool
+pub(crate) fn all_zero(page: &[u8]) -> bool
     ensures { λ r. ⌜ r ≡ allZero (now (page .entry)) ⌝ }
 {
     let mut i = 0;
@@ -43,7 +43,7 @@ pub fn all_zero(page: &[u8]) -> bool
 }
 
 // Puts `src` over `dst` from the place `at` on.
-pub fn put(dst: &mut [u8], at: usize, src: &[u8])
+pub(crate) fn put(dst: &mut [u8], at: usize, src: &[u8])
     requires { ⌜ at + length (now src) ≤ length (now dst) ⌝ }
     ensures { λ _. ⌜ now (dst .exit) ≡ over (now (dst .entry)) at (now (src .entry)) ⌝ }
 {
@@ -54,7 +54,7 @@ pub fn put(dst: &mut [u8], at: usize, src: &[u8])
     }
 }
 
-pub fn clear(s: &mut [u8])
+pub(crate) fn clear(s: &mut [u8])
     ensures { λ _. ⌜ now (s .exit) ≡ replicate (length (now (s .entry))) 0 ⌝ }
 {
     let mut i = 0;

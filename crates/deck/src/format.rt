@@ -7,7 +7,7 @@ ghost use lib.ListN.{length};
 ghost use Rattle.manual.specs.TheMachine.{sizeAllowed};
 ghost use Rattle.manual.specs.Deck.{recordLength, machineIn, machineRecord, zeroed};
 
-pub fn size_allowed(size: usize) -> bool
+pub(crate) fn size_allowed(size: usize) -> bool
     ensures { λ r. ⌜ r ≡ sizeAllowed size ⌝ }
 {
     if size < 256 {
@@ -19,7 +19,7 @@ pub fn size_allowed(size: usize) -> bool
     size % 256 == 0
 }
 
-pub fn zeroed() -> Machine
+pub(crate) fn zeroed() -> Machine
     ensures { λ r. ⌜ r ≡ zeroed ⌝ }
 {
     let wr = [0u16; 4];
@@ -34,7 +34,7 @@ pub fn zeroed() -> Machine
 }
 
 // The length of a record, by its kind.
-pub fn record_length(kind: u8) -> usize
+pub(crate) fn record_length(kind: u8) -> usize
     ensures { λ r. ⌜ r ≡ recordLength kind ⌝ }
 {
     if kind == 1 {
@@ -47,7 +47,7 @@ pub fn record_length(kind: u8) -> usize
 }
 
 // The machine of the record 01 at the front of `d`.
-pub fn machine_in(d: &[u8]) -> Machine
+pub(crate) fn machine_in(d: &[u8]) -> Machine
     requires { ⌜ 19 ≤ length (now d) ⌝ }
     ensures { λ r. ⌜ r ≡ machineIn (now (d .entry)) ⌝ }
 {
@@ -68,7 +68,7 @@ pub fn machine_in(d: &[u8]) -> Machine
 }
 
 // The record 01 of a machine with this many pages.
-pub fn machine_record(pages: usize, m: Machine) -> [u8; 19]
+pub(crate) fn machine_record(pages: usize, m: Machine) -> [u8; 19]
     requires { ⌜ pages ≤ 256 ⌝ }
     requires { ⌜ 1 ≤ pages ⌝ }
     ensures { λ r. ⌜ r ≡ machineRecord pages m ⌝ }

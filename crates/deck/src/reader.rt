@@ -115,7 +115,7 @@ fn rest(deck: &[u8], pages: usize) -> ReadAnswer
 }
 
 // Whether the deck is accepted for a storage of `size` bytes.
-pub fn verdict(deck: &[u8], size: usize) -> ReadAnswer
+pub(crate) fn verdict(deck: &[u8], size: usize) -> ReadAnswer
     ensures { λ r. ⌜ r ≡ deckAnswer (now (deck .entry)) size ⌝ }
 {
     match first(deck, size) {
@@ -125,7 +125,7 @@ pub fn verdict(deck: &[u8], size: usize) -> ReadAnswer
 }
 
 // Lays the pages of an accepted deck over the storage.
-pub fn lay_pages(deck: &[u8], s: &mut [u8])
+pub(crate) fn lay_pages(deck: &[u8], s: &mut [u8])
     requires { ⌜ deckAnswer (now deck) (length (now s)) ≡ DeckRead ⌝ }
     ensures { λ _. ⌜ now (s .exit) ≡ paged (length (now (deck .entry))) (drop 19 (now (deck .entry))) (now (s .entry)) ⌝ }
 {

@@ -21,7 +21,7 @@ fn page_length(page: &[u8]) -> usize
 }
 
 // The length of the deck of a storage.
-pub fn deck_length(s: &[u8]) -> usize
+pub(crate) fn deck_length(s: &[u8]) -> usize
     ensures { λ r. ⌜ r ≡ 20 + length (pageRecords (length (now (s .entry)) / 256) 0 (now (s .entry))) ⌝ }
 {
     let count = s.len() / 256;
@@ -69,7 +69,7 @@ fn write_pages(s: &[u8], out: &mut [u8]) -> usize
 }
 
 // Writes the deck of a machine and its storage to the front of `out`.
-pub fn write_deck(m: Machine, s: &[u8], out: &mut [u8])
+pub(crate) fn write_deck(m: Machine, s: &[u8], out: &mut [u8])
     requires { ⌜ sizeAllowed (length (now s)) ≡ true ⌝ }
     requires { ⌜ length (deckOf m (now s)) ≤ length (now out) ⌝ }
     ensures { λ _. ⌜ now (out .exit) ≡ over (now (out .entry)) 0 (deckOf m (now (s .entry))) ⌝ }

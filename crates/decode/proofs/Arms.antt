@@ -1,6 +1,6 @@
 -- What the manual's decoding comes to where the form and the operation are known. What carries it: the instruction's bytes stand in storage from its address on.
 use mathlib.Core.Path.{_≡_, refl, sym, _∙_}
-use mathlib.Core.Bool.{Bool, true, false, cond}
+use mathlib.Core.Bool.{Bool, true, false, cond, not}
 use mathlib.Core.List.{List, [], _∷_}
 use Prim.Native.Nat.{ℕ, _+_, _-_, _/_, _%_, _<_}
 use native.Mathlib.Omega.{arith}
@@ -53,12 +53,12 @@ module _ (s : List ℕ) (a : ℕ) where
 
   module _ (c : Core) (f : Form) (op : Operation) where
     -- one address: the form has no second
-    pub one-named : (b : Base) → f .second ≡ Absent → firstBase (f .group) (f .first) (getD s a 0 % 16) ≡ b
+    one-named : (b : Base) → f .second ≡ Absent → firstBase (f .group) (f .first) (getD s a 0 % 16) ≡ b
         → fetchedOf c (decodeNamed s a f (Known op)) ≡ wholly s a (f .length) (allowing op s a (Go op (oneAt c s a (f .length) b)))
     unfolding instructionOf
     one-named b e h = in-order c (ltb (length s - a) (f .length)) (allowed op (getD s (a + 1) 0)) (instructionOf a f op (λ k. getD s (a + k) 0)) ∙ (rw (add-zero a, h, e, number-at b 2))
 
-    pub two-named : f .group ≡ TwoAddress → fetchedOf c (decodeNamed s a f (Known op)) ≡ doubleOf op f c s a
+    two-named : f .group ≡ TwoAddress → fetchedOf c (decodeNamed s a f (Known op)) ≡ doubleOf op f c s a
     unfolding instructionOf doubleOf firstBase
     two-named e =
         in-order c (ltb (length s - a) (f .length)) (allowed op (getD s (a + 1) 0)) (instructionOf a f op (λ k. getD s (a + k) 0)) ∙
@@ -97,6 +97,8 @@ double-arm o k d op f c s a is-d is-f is-k n g =
     let m : namedOf (formOf k .group) (o % 16) ≡ Known op = rw g n in
     rw (is-d, is-f, is-k, m) (sym (two-named s a c (formOf k) op g))
 
+-- ---- the opcodes that name nothing
+
 pub is-unknown : (n : Named) → T (isUnknown n) → n ≡ Unknown
 is-unknown Unknown t = refl
 is-unknown (Known op) t = absurd t
@@ -116,18 +118,12 @@ unnamed c s a o t h = rw (no-name (formOf (o / 16) .group) (operationOf o) t (λ
 abbrev pub digits : List ℕ
 digits = 10 ∷ 9 ∷ 8 ∷ 6 ∷ 5 ∷ 4 ∷ 2 ∷ 1 ∷ 0 ∷ []
 
-abbrev notPair : Group → Bool
-notPair TwoAddress = false
-notPair OneAddress = true
-notPair Branch = true
-notPair Jump = true
-
-other-digits : Passed digits (λ k. notPair (formOf k .group))
+other-digits : Passed digits (λ k. not (isPairOr (formOf k .group) false))
 unfolding formOf
 other-digits = tt
 
 pub no-pair : (k : ℕ) → k < 256 → Rest digits k → formOf k .group ≡ TwoAddress → ⊥
-no-pair k h n g = rw g at (by-rest digits (λ k. notPair (formOf k .group)) other-digits k h n)
+no-pair k h n g = rw g at (by-rest digits (λ k. not (isPairOr (formOf k .group) false)) other-digits k h n)
 
 -- the opcodes that the decoder names one by one, the last first: every other is a two-address one or names nothing
 abbrev pub listed : List ℕ

@@ -1,0 +1,3 @@
+mod Summing
+mod Settling
+mod Ways
