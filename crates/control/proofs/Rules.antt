@@ -43,9 +43,6 @@ word-stored m s a i v w h false is = rw is
 
 -- ---- the two bytes: e is how their range test ended
 
-pub there : (size a : ℕ) (e : End) → e ≡ endOf (reach size 2 a) → isGone e ≡ true → (a < size) × (2 ≤ a + 1)
-there size a e told gone = reach-clear size 2 a (is-clear (reach size 2 a) e told gone)
-
 module _ (m : Machine) (s : List ℕ) (f : Fields) (e : End) (told : e ≡ endOf (reach (length s) 2 (f .a1))) where
   module _ (out : isGone e ≡ false) where
     barred : (p : Prog Out) (σ : State) → from m s (unless (reach (length s) 2 (f .a1)) p) σ ≡ ended m (answerAt e (f .q) (f .r)) s

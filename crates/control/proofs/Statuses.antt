@@ -1,32 +1,15 @@
 -- The status after L, BC and JC as the code reckons it. What carries it: arithmetic, and one computed test of every status under every pick.
 use mathlib.Core.Path.{_≡_, sym, _∙_, subst}
 use mathlib.Core.Bool.{Bool, true, false, _&&_}
-use mathlib.Core.Logic.{⊎-elim}
 use Prim.Native.Nat.{ℕ, zero, suc, _+_, _-_, _*_, _/_, _%_, _<_}
 use native.Mathlib.Omega.{arith}
-use native.Mathlib.Nat.{le-of-suc-le-suc, not-suc-le-zero, eq-or-lt-of-le}
 use lib.Bits.{bitAnd}
 use lib.Dec.{T, eqb, eqb→eq}
 use borrow.Author.Tests.{eq-eqb, ne-eqb}
 use Rattle.manual.specs.TheMachine.{turnOff, setOrder}
 use Rattle.manual.specs.Registers.{loadedStatus}
 use Rattle.manual.specs.Branches.{afterTest}
-
-both : (a b : Bool) → T (a && b) → T a × T b
-both true b t = (tt, t)
-both false b t = absurd t
-
--- a test that holds of every number below n
-abbrev allBelow : (ℕ → Bool) → ℕ → Bool
-allBelow p zero = true
-allBelow p (suc n) = p n && allBelow p n
-
-all-at : (p : ℕ → Bool) (n : ℕ) → T (allBelow p n) → (k : ℕ) → k < n → T (p k)
-all-at p zero t k h = absurd (not-suc-le-zero h)
-all-at p (suc n) t k h =
-    ⊎-elim (λ e. subst (λ (m : ℕ). T (p m)) (sym e) (both (p n) (allBelow p n) t .0))
-    (λ l. all-at p n (both (p n) (allBelow p n) t .1) k l)
-    (eq-or-lt-of-le (le-of-suc-le-suc h))
+use Rattle.parts.proofs.Computed.{allBelow, all-at}
 
 -- test false and decimal overflow picked as the two bits of k
 abbrev agrees : ℕ → ℕ → Bool

@@ -7,26 +7,20 @@ use mathlib.Core.Logic.{_⊎_, ⊎-elim}
 use mathlib.Core.Path.{_≡_, refl, ap, _∙_}
 use native.Mathlib.Nat.{add-zero}
 use native.Mathlib.Omega.{arith}
-use borrow.Author.Tests.{ne-eqb, lt-ltb, le-ltb, not-true, not-false}
+use borrow.Author.Tests.{ne-eqb, lt-ltb, lt-leb, le-leb, not-true, not-false}
 use lib.Dec.{eqb, ltb}
 use lib.ListN.{length, getD, take, drop, length-drop}
 use lib.Seq.{length-take-le, drop-drop, take-all, getD-drop}
 use Rattle.manual.specs.declared.DeckFault.{DeckFault}
-use Rattle.manual.specs.declared.DeckFault.the-variants.{SizeNotTheDecks, StatusNotAllowed, BytesAfterEnd}
+use Rattle.manual.specs.declared.DeckFault.the-variants.{SizeNotTheDecks, StatusNotAllowed, EndsEarly, KindUnknown, OutOfOrder, BytesAfterEnd}
 use Rattle.manual.specs.declared.ReadAnswer.{ReadAnswer}
 use Rattle.manual.specs.declared.ReadAnswer.the-variants.{DeckRead, DeckRefused}
 use Rattle.manual.specs.TheMachine.{statusAllowed}
-use Rattle.manual.specs.Deck.{provided, recordAnswer, firstAnswer, pageAnswer, laterAnswer, deckAnswer, over, paged}
+use Rattle.manual.specs.Deck.{recordLength, provided, recordAnswer, firstAnswer, pageAnswer, laterAnswer, deckAnswer, over, paged}
 use Rattle.manual.proofs.Pages.{length-over}
 use Rattle.manual.proofs.DeckRecords.{asked, asked-good, asked-more, andMore, first-more, PageAt, EndAt, laterRecord, later-is, later-at, later-more, accepted, PageThen, later-cases}
 
 -- ---- the tests of a record
-
-pub none-left : (n : ℕ) → n ≡ 0 → ltb 0 n ≡ false
-none-left n e = le-ltb 0 n (omega arith)
-
-pub some-left : (n : ℕ) → (n ≡ 0 → ⊥) → ltb 0 n ≡ true
-some-left n h = lt-ltb 0 n (omega arith)
 
 -- a first record is to be of kind 01, a later one not
 in-order : (one first : Bool) → cond first one (not one) ≡ Bool·beq one first
@@ -35,12 +29,38 @@ in-order true false = refl
 in-order false true = refl
 in-order false false = refl
 
-module _ (kind : ℕ) (first : Bool) where
-  pub order-kept : not (Bool·beq (eqb kind 1) first) ≡ false → cond first (eqb kind 1) (not (eqb kind 1)) ≡ true
-  order-kept h = in-order (eqb kind 1) first ∙ not-false _ h
+-- what each record is asked first, test by test
+module _ (d : List ℕ) (first : Bool) where
+  abbrev order : Bool
+  order = cond first (eqb (getD d 0 0) 1) (not (eqb (getD d 0 0) 1))
 
-  pub order-broken : not (Bool·beq (eqb kind 1) first) ≡ true → cond first (eqb kind 1) (not (eqb kind 1)) ≡ false
-  order-broken h = in-order (eqb kind 1) first ∙ not-true _ h
+  pub asked-none : length d ≡ 0 → DeckRefused EndsEarly ≡ recordAnswer order d DeckRead
+  asked-none e = rw e
+
+  module _ (some : length d ≡ 0 → ⊥) where
+    some-left : ltb 0 (length d) ≡ true
+    some-left = lt-ltb 0 (length d) (omega arith)
+
+    pub asked-low : getD d 0 0 < 1 → DeckRefused KindUnknown ≡ recordAnswer order d DeckRead
+    asked-low h = simp (some-left, lt-leb _ _ h)
+
+    module _ (low : 1 ≤ getD d 0 0) where
+      pub asked-high : 3 < getD d 0 0 → DeckRefused KindUnknown ≡ recordAnswer order d DeckRead
+      asked-high h = simp (some-left, le-leb _ _ low, lt-leb _ _ h)
+
+      module _ (high : getD d 0 0 ≤ 3) where
+        pub asked-order : not (Bool·beq (eqb (getD d 0 0) 1) first) ≡ true → DeckRefused OutOfOrder ≡ recordAnswer order d DeckRead
+        asked-order h = simp (some-left, le-leb _ _ low, le-leb _ _ high, in-order (eqb (getD d 0 0) 1) first ∙ not-true _ h)
+
+        module _ (kept : not (Bool·beq (eqb (getD d 0 0) 1) first) ≡ false) where
+          in-its-order : order ≡ true
+          in-its-order = in-order (eqb (getD d 0 0) 1) first ∙ not-false _ kept
+
+          pub asked-short : length d < recordLength (getD d 0 0) → DeckRefused EndsEarly ≡ recordAnswer order d DeckRead
+          asked-short h = simp (some-left, le-leb _ _ low, le-leb _ _ high, in-its-order, lt-leb _ _ h)
+
+          pub asked-whole : recordLength (getD d 0 0) ≤ length d → DeckRead ≡ recordAnswer order d DeckRead
+          asked-whole h = simp (some-left, le-leb _ _ low, le-leb _ _ high, in-its-order, le-leb _ _ h)
 
 -- what a record is asked, and then more
 module _ (b : Bool) (d : List ℕ) (more : ReadAnswer) where
@@ -60,8 +80,8 @@ module _ (d : List ℕ) (size : ℕ) where
   unfolding firstAnswer
   first-shut x e = asked-shut (eqb (getD d 0 0) 1) d _ x e
 
-  pub first-whole : recordAnswer (eqb (getD d 0 0) 1) d DeckRead ≡ DeckRead → 19 ≤ length d
-  first-whole e = let a = asked (eqb (getD d 0 0) 1) d DeckRead e .0 in rw (a .order) at (a .whole)
+pub first-whole : (d : List ℕ) → recordAnswer (eqb (getD d 0 0) 1) d DeckRead ≡ DeckRead → 19 ≤ length d
+first-whole d e = let a = asked (eqb (getD d 0 0) 1) d DeckRead e .0 in rw (a .order) at (a .whole)
 
 module _ (d : List ℕ) (pages next : ℕ) where
   pub later-open : recordAnswer (not (eqb (getD d 0 0) 1)) d DeckRead ≡ DeckRead

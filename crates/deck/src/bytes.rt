@@ -29,17 +29,19 @@ pub(crate) fn word(d: &[u8], at: usize) -> u16
     joined(d[at], d[at + 1])
 }
 
+// Whether every byte is zero. No early way out, so that the compiler takes many bytes at a time.
 pub(crate) fn all_zero(page: &[u8]) -> bool
     ensures { λ r. ⌜ r ≡ allZero (now (page .entry)) ⌝ }
 {
+    let mut clear = true;
     let mut i = 0;
     while i < page.len() {
         if page[i] != 0 {
-            return false;
+            clear = false;
         }
         i += 1;
     }
-    true
+    clear
 }
 
 // Puts `src` over `dst` from the place `at` on.

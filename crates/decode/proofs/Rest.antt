@@ -1,31 +1,14 @@
 -- What the last arm of a match on a byte is told: any test that all the other bytes pass. What carries it: the test is computed of all 256.
-use mathlib.Core.Path.{_≡_, sym, subst}
-use mathlib.Core.Bool.{Bool, true, false, _&&_, _||_}
+use mathlib.Core.Path.{_≡_}
+use mathlib.Core.Bool.{Bool, true, false, _||_}
 use mathlib.Core.List.{List, [], _∷_}
-use mathlib.Core.Logic.{⊎-elim}
-use Prim.Native.Nat.{ℕ, zero, suc, _<_}
-use native.Mathlib.Nat.{le-of-suc-le-suc, not-suc-le-zero, eq-or-lt-of-le}
+use Prim.Native.Nat.{ℕ, _<_}
 use lib.Dec.{T, eqb, eqb→eq}
-
-both : (a b : Bool) → T (a && b) → T a × T b
-both true b t = (tt, t)
-both false b t = absurd t
+use Rattle.parts.proofs.Computed.{allBelow, all-at}
 
 second : (a b : Bool) → T (a || b) → (T a → ⊥) → T b
 second true b t h = absurd (h tt)
 second false b t h = t
-
--- a test that holds of every number below n
-abbrev allBelow : (ℕ → Bool) → ℕ → Bool
-allBelow p zero = true
-allBelow p (suc n) = p n && allBelow p n
-
-all-at : (p : ℕ → Bool) (n : ℕ) → T (allBelow p n) → (k : ℕ) → k < n → T (p k)
-all-at p zero t k h = absurd (not-suc-le-zero h)
-all-at p (suc n) t k h =
-    ⊎-elim (λ e. subst (λ (m : ℕ). T (p m)) (sym e) (both (p n) (allBelow p n) t .0))
-    (λ l. all-at p n (both (p n) (allBelow p n) t .1) k l)
-    (eq-or-lt-of-le (le-of-suc-le-suc h))
 
 abbrev member : ℕ → List ℕ → Bool
 member x [] = false

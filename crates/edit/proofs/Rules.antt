@@ -38,19 +38,11 @@ source-clear size zero a e = (omega arith, λ h. absurd (omega arith))
 source-clear size (suc n) a e = let h = reach-clear size (suc n) a (ap clear (sym (source-some size n a)) ∙ e) in (h .1, λ _. h .0)
 
 module _ (size n a : ℕ) (e : End) where
-  pub reached-in : e ≡ endOf (reach size n a) → isGone e ≡ true → (a < size) × (n ≤ a + 1)
-  reached-in h g = reach-clear size n a (is-clear (reach size n a) e h g)
-
   pub right-in : e ≡ endOf (reachRight size n a) → isGone e ≡ true → a + n ≤ size
   right-in h g = reachRight-clear size n a (is-clear (reachRight size n a) e h g)
 
   pub source-in : e ≡ endOf (sourceReach size n a) → isGone e ≡ true → (n ≤ a + 1) × (0 < n → a < size)
   source-in h g = source-clear size n a (is-clear (sourceReach size n a) e h g)
-
-pub both-in : (size a b : ℕ) (e : End) → e ≡ endOf (andThen (reach size 1 a) (reach size 1 b)) → isGone e ≡ true → (a < size) × (b < size)
-both-in size a b e h g =
-    let k = both-clear (reach size 1 a) (reach size 1 b) (is-clear (andThen (reach size 1 a) (reach size 1 b)) e h g) in
-    (reach-clear size 1 a (k .0) .0, reach-clear size 1 b (k .1) .0)
 
 -- ---- two operands, the second tested where the first is clear
 

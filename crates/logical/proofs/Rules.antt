@@ -19,18 +19,16 @@ use Rattle.parts.specs.declared.Core.{Core}
 use Rattle.parts.specs.declared.End.{End}
 use Rattle.parts.specs.declared.End.the-variants.{Gone}
 use Rattle.parts.specs.Inside.{LeafDoes, machineOf, movedTo, endOf, isGone}
-use Rattle.parts.proofs.Reaching.{reach-told, both-told, stops, goes, is-clear}
+use Rattle.parts.proofs.Reaching.{reach-told, both-told, stops, goes, is-clear, reached-in, both-reached}
 
 -- the end e is told by the test b: no stop stands in the way where it is true
 module _ (e : End) (b : Bool) where
   pub one-in : (size a : ℕ) → e ≡ endOf (reach size 1 a) → b ≡ isGone e → b ≡ true → a < size
-  one-in size a h k g = reach-clear size 1 a (is-clear (reach size 1 a) e h (sym k ∙ g)) .0
+  one-in size a h k g = reached-in size 1 a e h (sym k ∙ g) .0
 
   pub both-in : (size n a₁ a₂ : ℕ) → e ≡ endOf (andThen (reach size n a₁) (reach size n a₂)) → b ≡ isGone e → b ≡ true
       → ((a₁ < size) × (n ≤ a₁ + 1)) × ((a₂ < size) × (n ≤ a₂ + 1))
-  both-in size n a₁ a₂ h k g =
-      let w = both-clear (reach size n a₁) (reach size n a₂) (is-clear (andThen (reach size n a₁) (reach size n a₂)) e h (sym k ∙ g)) in
-      (reach-clear size n a₁ (w .0), reach-clear size n a₂ (w .1))
+  both-in size n a₁ a₂ h k g = both-reached size n a₁ n a₂ e h (sym k ∙ g)
 
 module _ (f : Fields) (c : Core) (s : List ℕ) (e : End) (b : Bool) where
   -- ---- one byte

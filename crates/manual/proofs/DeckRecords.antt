@@ -1,6 +1,6 @@
 -- What is known of a record that was not refused, and that such a record is not refused. What carries it: the tests, one by one.
-use Prim.Native.Nat.{ℕ, zero, suc, _+_, _≤_, _<_, _*_, _/_}
-use mathlib.Core.Bool.{Bool, true, false, cond, not, _&&_}
+use Prim.Native.Nat.{ℕ, suc, _+_, _≤_, _<_, _*_, _/_}
+use mathlib.Core.Bool.{Bool, true, false, cond, not}
 use mathlib.Core.List.{List}
 use mathlib.Core.Logic.{_⊎_, inl, inr, ⊎-elim}
 use mathlib.Core.Path.{_≡_, refl, sym, _∙_}

@@ -3,28 +3,27 @@
 use Prim.Native.Nat.{ℕ, zero, suc, _+_, _≤_, _<_, _-_, _*_, _/_, _%_, pred}
 use mathlib.Core.Bool.{Bool, true, false, cond}
 use mathlib.Core.List.{List, [], _∷_, _++_, append-assoc}
-use mathlib.Core.Logic.{_⊎_, ⊎-elim}
+use mathlib.Core.Logic.{⊎-elim}
 use mathlib.Core.Path.{_≡_, refl, ap, sym, _∙_}
 use native.Mathlib.Nat.{add-zero, zero-add, div-add-mod'}
 use native.Mathlib.Omega.{arith}
 use borrow.Author.Tests.{eqb-true, leb-true, le-leb, ltb-true, lt-ltb, eq-eqb}
 use lib.Dec.{eqb, leb, lit<}
 use lib.ListN.{length, getD, take, drop, length-append, length-drop, take-append-drop, replicate}
-use lib.Seq.{length-take-le, take-at, drop-at, drop-cons, take-append-seam, getD-drop}
+use lib.Seq.{length-take-le, take-at, drop-at, drop-cons, take-append-seam, drop-append-seam, getD-drop}
 use Rattle.manual.specs.declared.Machine.{Machine}
 use Rattle.manual.specs.declared.DeckFault.{DeckFault}
-use Rattle.manual.specs.declared.ReadAnswer.{ReadAnswer}
 use Rattle.manual.specs.declared.ReadAnswer.the-variants.{DeckRead, DeckRefused}
 use Rattle.manual.specs.declared.WriteFault.{WriteFault}
 use Rattle.manual.specs.declared.WriteAnswer.the-variants.{DeckWritten, NotWritten}
 use Rattle.manual.specs.TheMachine.{sizeAllowed, statusAllowed}
-use Rattle.manual.specs.Deck.{machineRecord, machineIn, allZero, pageRecord, pageRecords, deckOf, laterAnswer, deckAnswer, over, paged, storageIn, readOutcome, zeroed, readOf, WriteOutcome, writeOutcome, writeOf}
+use Rattle.manual.specs.Deck.{machineRecord, machineIn, allZero, pageRecords, deckOf, laterAnswer, deckAnswer, over, paged, storageIn, readOutcome, zeroed, readOf, WriteOutcome, writeOutcome, writeOf}
 use Rattle.manual.proofs.Running.{and-both}
 use Rattle.manual.proofs.Status.{pick}
 use Rattle.manual.proofs.FieldBytes.{Bytes}
 use Rattle.manual.proofs.Bounds.{Bounded}
 use Rattle.manual.proofs.Pages.{none, zeros, length-zeros, zeros-add, zeros-page, zero-page, over-zeros, front-length, rest-length, records-none, records-some, skip-zeros, only-zeros}
-use Rattle.manual.proofs.DeckRecords.{either, refused-read, FirstAt, first-good, PageAt, EndAt, later-is, page-good, end-good, accepted, later-cases, not-none}
+use Rattle.manual.proofs.DeckRecords.{either, FirstAt, first-good, PageAt, EndAt, later-is, page-good, end-good, accepted, later-cases, not-none}
 
 -- ---- how long a deck is
 
@@ -196,6 +195,11 @@ written-reads m s b allowed t l = deck-reads m s allowed (lt-ltb _ _ (b .status)
 pub written-front : (m : Machine) (s out : List ℕ) → take (length (deckOf m s)) (over out 0 (deckOf m s)) ≡ deckOf m s
 unfolding over
 written-front m s out = take-append-seam (deckOf m s) _
+
+-- and bytes after that length stay
+pub written-stays : (m : Machine) (s out : List ℕ) → drop (length (deckOf m s)) (over out 0 (deckOf m s)) ≡ drop (length (deckOf m s)) out
+unfolding over
+written-stays m s out = drop-append-seam (deckOf m s) _ ∙ (rw zero-add)
 
 -- ---- what the writer answers
 
@@ -398,7 +402,7 @@ module _ (d : List ℕ) (size : ℕ) (bytes : Bytes d) (good : deckAnswer d size
   unfolding storageIn zeros
   storage-read = ap (λ (n : ℕ). paged (length d) (drop 19 d) (zeros n)) (sym (first-read .size-is)) ∙ all-read .laid
 
-  storage-size : length (storageIn d size) ≡ size
+  pub storage-size : length (storageIn d size) ≡ size
   storage-size = rw storage-read (all-read .size ∙ first-read .size-is)
 
   -- an accepted deck is the deck of what it says, byte for byte
@@ -409,11 +413,11 @@ module _ (d : List ℕ) (size : ℕ) (bytes : Bytes d) (good : deckAnswer d size
       rw (storage-read, c, machine-read d bytes (first-read .kind), all-read .again)
       (sym (drop-bytes 19 0 d (first-read .whole)))
 
-  status-read : statusAllowed (machineIn d .status) ≡ true
+  pub status-read : statusAllowed (machineIn d .status) ≡ true
   unfolding machineIn statusAllowed
   status-read = lt-ltb _ _ (first-read .status)
 
-  size-read : sizeAllowed size ≡ true
+  pub size-read : sizeAllowed size ≡ true
   size-read = rw (← (first-read .size-is)) (named-allowed (getD d 1 0) (bytes 1))
 
   -- and so it is written, where there is room for it

@@ -1,3 +1,4 @@
 pub mod Reaching
 pub mod Statuses
 pub mod Working
+pub mod Computed

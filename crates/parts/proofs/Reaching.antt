@@ -16,7 +16,7 @@ use Rattle.manual.specs.Places.{State, state}
 use Rattle.manual.specs.Programs.{Prog, Out, clear, unless, andThen}
 use Rattle.manual.specs.Formats.{reach, reachRight}
 use Rattle.manual.specs.Step.{Outcome, ended}
-use Rattle.manual.proofs.Running.{from, from-stop}
+use Rattle.manual.proofs.Running.{from, from-stop, both-clear, reach-clear}
 use Rattle.parts.specs.declared.End.{End}
 use Rattle.parts.specs.declared.End.the-variants.{Gone, Short, NoOpcode, BadQ, Outside, BadDigit, Called}
 use Rattle.parts.specs.Inside.{endOf, isGone, answerAt}
@@ -93,3 +93,13 @@ goes m s (Barred x) p σ e h g = absurd (false≢true (sym (stop-gone x) ∙ sym
 -- the way is clear
 pub is-clear : (w : Way) (e : End) → e ≡ endOf w → isGone e ≡ true → clear w ≡ true
 is-clear w e h g = sym (gone-clear w) ∙ sym (ap isGone h) ∙ g
+
+-- an operand that is clear to be reached lies in storage
+pub reached-in : (size n a : ℕ) (e : End) → e ≡ endOf (reach size n a) → isGone e ≡ true → (a < size) × (n ≤ a + 1)
+reached-in size n a e h g = reach-clear size n a (is-clear (reach size n a) e h g)
+
+pub both-reached : (size n₁ a₁ n₂ a₂ : ℕ) (e : End) → e ≡ endOf (andThen (reach size n₁ a₁) (reach size n₂ a₂)) → isGone e ≡ true
+    → ((a₁ < size) × (n₁ ≤ a₁ + 1)) × ((a₂ < size) × (n₂ ≤ a₂ + 1))
+both-reached size n₁ a₁ n₂ a₂ e h g =
+    let w = both-clear (reach size n₁ a₁) (reach size n₂ a₂) (is-clear (andThen (reach size n₁ a₁) (reach size n₂ a₂)) e h g) in
+    (reach-clear size n₁ a₁ (w .0), reach-clear size n₂ a₂ (w .1))

@@ -1,3 +1,5 @@
 mod Summing
+mod Signs
 mod Settling
+mod Combining
 mod Ways

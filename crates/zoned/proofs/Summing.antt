@@ -2,16 +2,16 @@
 use mathlib.Core.Path.{_≡_, refl, sym, ap, _∙_}
 use mathlib.Core.Bool.{Bool, true, false, _&&_}
 use mathlib.Core.List.{List}
-use mathlib.Core.Logic.{inl, inr}
-use Prim.Native.Nat.{ℕ, zero, suc, _+_, _-_, _*_, _/_, _%_, _^_, _≤_, _<_}
+use mathlib.Core.Logic.{inr}
+use Prim.Native.Nat.{ℕ, suc, _+_, _-_, _*_, _/_, _%_, _^_, _≤_, _<_}
 use native.Mathlib.Decide.{decLt}
 use native.Mathlib.Nat.{pow-suc, pow-succ', div-div-eq-div-mul, div-eq-of-lt, sub-zero, div-one, mod-lt, mod-one, mod-eq-of-lt, zero-mul, zero-mod, zero-div, le-mul-of-pos-right, pow-le-pow-right}
 use native.Mathlib.Numerals.{add-one}
 use native.Mathlib.Omega.{arith}
 use lib.Arith.{mod-mul}
 use lib.Dec.{eqb}
-use lib.ListN.{length, getD, set, replicate, getD-replicate, List·getD-eq-default}
-use borrow.Author.Tests.{eq-eqb, ne-eqb, eqb-true, eqb-false}
+use lib.ListN.{getD, set, replicate, getD-replicate, List·getD-eq-default}
+use borrow.Author.Tests.{ne-eqb, eqb-true, eqb-false}
 use Rattle.manual.specs.Values.{bytesOf, digit, size, allDigits}
 use Rattle.manual.proofs.Digits.{ten-pos, digitAt, digit-small, cut-next}
 use Rattle.manual.proofs.FieldBytes.{written, written-next, written-inside, written-outside}
@@ -42,19 +42,19 @@ sum-last v w c n i x y T h left =
     let e = rw q at left in
     omega (arith, e, part-none v x, part-none w y)
 
--- T is the whole sum; t is its column i, with what is carried into it
-module _ (v w : Take) (n i x y c t T : ℕ) (h : i < n) (left : T / 10 ^ i ≡ addedUp v w c (n - i) (x / 10 ^ i) (y / 10 ^ i))
-    (e : t ≡ taken v (digitAt x i) + taken w (digitAt y i) + c) where
+-- T is the whole sum; t is its column i with the carry c into it, and k is what that carries on
+module _ (v w : Take) (n i x y c t k T : ℕ) (h : i < n) (left : T / 10 ^ i ≡ addedUp v w c (n - i) (x / 10 ^ i) (y / 10 ^ i))
+    (e : t ≡ taken v (digitAt x i) + taken w (digitAt y i) + c) (f : k ≡ t / 10) where
   column : T / 10 ^ i ≡ t + 10 * (part v (n - (i + 1)) (x / 10 ^ i / 10) + part w (n - (i + 1)) (y / 10 ^ i / 10))
   column =
       let q : n - i ≡ suc (n - (i + 1)) = omega arith in
-      let f = rw q at left in
-      omega (arith, f, part-next v (n - (i + 1)) (x / 10 ^ i), part-next w (n - (i + 1)) (y / 10 ^ i))
+      let r = rw q at left in
+      omega (arith, r, part-next v (n - (i + 1)) (x / 10 ^ i), part-next w (n - (i + 1)) (y / 10 ^ i))
 
-  pub turn-digit : t % 10 ≡ digitAt T i
+  pub turn-digit : t - 10 * k ≡ digitAt T i
   turn-digit = omega (arith, column)
 
-  pub turn-rest : T / 10 ^ (i + 1) ≡ addedUp v w (t / 10) (n - (i + 1)) (x / 10 ^ (i + 1)) (y / 10 ^ (i + 1))
+  pub turn-rest : T / 10 ^ (i + 1) ≡ addedUp v w k (n - (i + 1)) (x / 10 ^ (i + 1)) (y / 10 ^ (i + 1))
   turn-rest = rw (div-next T i, div-next x i, div-next y i) (omega (arith, column))
 
 -- the digits so far are zero, and the next is
@@ -94,9 +94,6 @@ bad-digit t n a j q h = go (allDigits (bytesOf t n a)) refl
     go : (b : Bool) → allDigits (bytesOf t n a) ≡ b → b ≡ false
     go true good = absurd (omega (arith, digit-of-size t n a j good q, digit-small (size (bytesOf t n a)) j))
     go false good = refl
-
-pub good-digit : (t : List ℕ) (n a j : ℕ) → allDigits (bytesOf t n a) ≡ true → j < n → digit (getD t (a - j) 0) ≤ 9
-good-digit t n a j good q = omega (arith, digit-of-size t n a j good q, digit-small (size (bytesOf t n a)) j)
 
 -- the digit whose turn it is, while those to its right are replaced
 pub next-digit : (s s₁ : List ℕ) (n i a T : ℕ) → allDigits (bytesOf s n a) ≡ true → n ≤ a + 1 → i < n → s₁ ≡ zonedBytes s i a false T

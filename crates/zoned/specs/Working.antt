@@ -1,17 +1,17 @@
 -- What the inner functions' promises cite: columns of digits, what stands in the way, and what a result leaves. No published promise does.
 use mathlib.Core.Path.{_≡_}
-use mathlib.Core.Bool.{Bool, true, false, cond}
+use mathlib.Core.Bool.{Bool, true, cond}
 use mathlib.Core.List.{List}
 use Prim.Native.Nat.{ℕ, _+_, _-_, _/_, _%_, _^_, _≤_, _<_}
 use lib.Dec.{eqb}
-use lib.IntN.{ℤ}
+use lib.IntN.{ℤ, _+ℤ_}
 use lib.ListN.{length, getD, set}
 use Rattle.manual.specs.declared.Columns.{Columns}
 use Rattle.manual.specs.declared.Way.{Way}
 use Rattle.manual.specs.TheMachine.{decimalOverflow, equal, low, high, turnOn, setOrder}
 use Rattle.manual.specs.Programs.{andThen}
 use Rattle.manual.specs.Formats.{reach}
-use Rattle.manual.specs.Values.{bytesOf, digit, size, allDigits, digitsOf, cut, leftMinus}
+use Rattle.manual.specs.Values.{bytesOf, digit, size, signed, allDigits, digitsOf, cut, leftMinus}
 use Rattle.manual.specs.Zoned.{l1, l2, zonedStatus}
 use Rattle.manual.proofs.ZonedRead.{zonedBytes}
 use Rattle.zoned.specs.declared.Take.{Take}
@@ -75,6 +75,10 @@ signPut minus clear s a = cond clear s (cond minus (set s a (0xD0 + digit (getD 
 abbrev pub finished : Bool → Bool → Bool → ℕ → ℕ
 finished minus over clear status =
     setOrder (cond clear equal (cond minus low high)) (cond over (turnOn decimalOverflow status) status)
+
+-- the exact sum of the two fields, with the signs g and h
+abbrev pub signedSum : Bool → Bool → List ℕ → ℕ → ℕ → List ℕ → ℤ
+signedSum g h s n a d = signed g (size (bytesOf s n a)) +ℤ signed h (size (bytesOf d n 30))
 
 -- the exact result x is put in the field: the status r and the storage t afterwards
 pub record Left (s : List ℕ) (n a status : ℕ) (x : ℤ) (r : ℕ) (t : List ℕ) : Type 0 where

@@ -1,19 +1,17 @@
 // ZAZ, AZ and SZ: each does what its rule says. A zoned field is n bytes whose rightmost is at a.
 ghost use mathlib.Core.Path.{_≡_};
-ghost use mathlib.Core.Bool.{Bool, true, false, cond, not};
-ghost use Prim.Native.Nat.{ℕ, _+_, _-_, _*_, _/_, _%_, _^_, _<_, _≤_};
+ghost use mathlib.Core.Bool.{true, false, cond, not};
+ghost use Prim.Native.Nat.{_+_, _-_, _*_, _/_, _%_, _^_, _<_, _≤_};
 ghost use lib.Dec.{eqb};
 ghost use lib.IntN.{_+ℤ_, _-ℤ_};
-ghost use lib.ListN.{length, getD, set, replicate};
-ghost use Rattle.manual.specs.TheMachine.{decimalOverflow, turnOn, setOrder, equal, low, high};
-ghost use Rattle.manual.specs.Programs.{andThen};
-ghost use Rattle.manual.specs.Formats.{reach};
-ghost use Rattle.manual.specs.Values.{bytesOf, digit, size, signed, value, allDigits, digitsOf};
+ghost use lib.ListN.{length, getD, replicate};
+ghost use Rattle.manual.specs.TheMachine.{decimalOverflow, turnOn};
+ghost use Rattle.manual.specs.Values.{bytesOf, digit, size, value, allDigits, digitsOf};
 ghost use Rattle.manual.specs.Zoned.{l1, l2, zaz, az, sz};
 ghost use Rattle.manual.proofs.FieldBytes.{written};
 ghost use Rattle.manual.proofs.ZonedRead.{zonedBytes};
 ghost use Rattle.parts.specs.Inside.{endOf, LeafDoes, Within};
-ghost use Rattle.zoned.specs.Working.{zazWay, combineWay, Ready, taken, Operands, sumOf, columnsOf, signPut, finished, Left};
+ghost use Rattle.zoned.specs.Working.{zazWay, combineWay, Ready, taken, Operands, sumOf, columnsOf, signPut, finished, signedSum, Left};
 use manual::Columns;
 use manual::Fields;
 use parts::Core;
@@ -74,7 +72,7 @@ fn combine_way(s: &[u8], q: u8, a1: usize, a2: usize) -> End
 
 // ---- digits
 
-// Operand 2 as it was, in a field of 31 bytes: zeros stand to the left of it.
+// Operand 2 as it was, at the right end of 31 bytes with zeros to its left: an overlap must not change a digit before it is taken.
 fn copied(s: &[u8], n: usize, a: usize) -> [u8; 31]
     requires { ⌜ (a < length (now s)) × (n ≤ a + 1) × (n ≤ 31) ⌝ }
     ensures { λ r. ⌜ r ≡ written (replicate 31 0) n 30 (λ j. getD (now (s .entry)) (a - j) 0) ⌝ }
@@ -107,7 +105,7 @@ fn put_digits(s: &mut [u8], n: usize, a: usize, d: &[u8; 31]) -> bool
 }
 
 // What a digit adds to its column: itself, or nine less itself.
-pub enum Take {
+enum Take {
     Plain,
     Nines,
 }
@@ -121,6 +119,17 @@ fn taken(w: Take, b: u8) -> usize
         Take::Plain => v,
         Take::Nines => 9 - v,
     }
+}
+
+// What a column carries on: a comparison, since a division would make the next column wait.
+fn carried(t: usize) -> usize
+    requires { ⌜ t < 20 ⌝ }
+    ensures { λ r. ⌜ r ≡ t / 10 ⌝ }
+{
+    if 9 < t {
+        return 1;
+    }
+    0
 }
 
 // Adds the digits of d to those of the field, column by column from the right.
@@ -140,14 +149,14 @@ fn columns(
 {
     let mut over = start;
     let mut clear = true;
-    let mut i = 0;
-    while i < n {
-        let t = taken(v, s[a - i]) + taken(w, d[30 - i]) + over;
-        let low = t % 10;
-        parts::put_byte(s, a - i, 240 + low as u8);
-        over = t / 10;
+    let mut j = 0;
+    while j < n {
+        let t = taken(v, s[a - j]) + taken(w, d[30 - j]) + over;
+        over = carried(t);
+        let low = t - 10 * over;
+        parts::put_byte(s, a - j, 240 + low as u8);
         clear = clear && low == 0;
-        i += 1;
+        j += 1;
     }
     Columns {
         over: over,
@@ -157,18 +166,15 @@ fn columns(
 
 // ---- the result
 
-// Decimal overflow goes on, and is never turned off here.
-fn with_overflow(over: bool, status: usize) -> usize
+// The status beside its order: decimal overflow goes on, and is never turned off here.
+fn kept(over: bool, status: usize) -> usize
     requires { ⌜ status < 64 ⌝ }
-    ensures { λ r. ⌜ (r ≡ cond over (turnOn decimalOverflow status) status) × (r < 64) ⌝ }
+    ensures { λ r. ⌜ (r ≡ cond over (turnOn decimalOverflow status) status / 8 * 8) × (r < 64) ⌝ }
 {
     if over {
-        if status / 8 % 2 == 1 {
-            return status;
-        }
-        return status + 8;
+        return status / 16 * 16 + 8;
     }
-    status
+    status / 8 * 8
 }
 
 // The sign, unless the size left is zero; answers the status.
@@ -177,33 +183,33 @@ fn finish(s: &mut [u8], a: usize, minus: bool, over: bool, clear: bool, status: 
     ensures { λ r. ⌜ now (s .exit) ≡ signPut minus clear (now (s .entry)) a ⌝ }
     ensures { λ r. ⌜ r ≡ finished minus over clear status ⌝ }
 {
-    let kept = with_overflow(over, status);
+    let status = kept(over, status);
     if clear {
-        return parts::set_order(1, kept);
+        return status + 1;
     }
     if minus {
         let v = 208 + s[a] % 16;
         parts::put_byte(s, a, v);
-        return parts::set_order(2, kept);
+        return status + 2;
     }
-    parts::set_order(4, kept)
+    status + 4
 }
 
 // Two sizes of one sign add.
 fn sum(s: &mut [u8], n: usize, a: usize, d: &[u8; 31], minus: bool, status: usize) -> usize
     requires { ⌜ Operands (now s) n a (now d) ⌝ }
     requires { ⌜ (0 < n) × (status < 64) ⌝ }
-    ensures { λ r. ⌜ Left (now (s .entry)) n a status (signed minus (size (bytesOf (now (s .entry)) n a)) +ℤ signed minus (size (bytesOf (now (d .entry)) n 30))) r (now (s .exit)) ⌝ }
+    ensures { λ r. ⌜ Left (now (s .entry)) n a status (signedSum minus minus (now (s .entry)) n a (now (d .entry))) r (now (s .exit)) ⌝ }
 {
     let c = columns(s, n, a, d, Take::Plain, Take::Plain, 0);
     finish(s, a, minus, c.over == 1, c.clear, status)
 }
 
-// Of two signs, the smaller size is taken off the larger, whose sign stays: without a carry the columns hold ten to the n less the size.
+// Of two signs the smaller size is taken off the larger, whose sign stays. Without a carry operand 2's is the larger, and the columns hold ten to the n less the result.
 fn difference(s: &mut [u8], n: usize, a: usize, d: &[u8; 31], minus: bool, status: usize) -> usize
     requires { ⌜ Operands (now s) n a (now d) ⌝ }
     requires { ⌜ (0 < n) × (status < 64) ⌝ }
-    ensures { λ r. ⌜ Left (now (s .entry)) n a status (signed minus (size (bytesOf (now (s .entry)) n a)) +ℤ signed (not minus) (size (bytesOf (now (d .entry)) n 30))) r (now (s .exit)) ⌝ }
+    ensures { λ r. ⌜ Left (now (s .entry)) n a status (signedSum minus (not minus) (now (s .entry)) n a (now (d .entry))) r (now (s .exit)) ⌝ }
 {
     let c = columns(s, n, a, d, Take::Plain, Take::Nines, 1);
     if c.over == 1 {
@@ -216,12 +222,14 @@ fn difference(s: &mut [u8], n: usize, a: usize, d: &[u8; 31], minus: bool, statu
 
 // ---- the instructions, where nothing stands in the way
 
+// Zone D means minus.
 fn is_minus(b: u8) -> bool
     ensures { λ r. ⌜ r ≡ eqb (b / 16) 13 ⌝ }
 {
     b / 16 == 13
 }
 
+// ZAZ puts operand 2's value in operand 1.
 fn put_second(s: &mut [u8], q: u8, a1: usize, a2: usize, status: usize) -> usize
     requires { ⌜ Ready (now s) q a1 a2 status ⌝ }
     ensures { λ r. ⌜ Left (now (s .entry)) (l1 q) a1 status (value (bytesOf (now (s .entry)) (l2 q) a2)) r (now (s .exit)) ⌝ }
@@ -232,6 +240,7 @@ fn put_second(s: &mut [u8], q: u8, a1: usize, a2: usize, status: usize) -> usize
     finish(s, a1, minus, false, clear, status)
 }
 
+// AZ adds operand 2, SZ takes it off.
 fn combined(s: &mut [u8], q: u8, a1: usize, a2: usize, less: bool, status: usize) -> usize
     requires { ⌜ Ready (now s) q a1 a2 status ⌝ }
     requires { ⌜ allDigits (bytesOf (now s) (l1 q) a1) ≡ true ⌝ }

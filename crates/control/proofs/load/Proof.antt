@@ -6,7 +6,8 @@ use mathlib.Core.Bool.{true}
 use Prim.Native.Nat.{_+_, _<_, _≤_}
 use lib.ListN.{length}
 use Rattle.parts.specs.Inside.{isGone}
-use Rattle.control.proofs.Rules.{there, load-status, load-register, load-stops}
+use Rattle.parts.proofs.Reaching.{reached-in}
+use Rattle.control.proofs.Rules.{load-status, load-register, load-stops}
 use Rattle.control.proofs.load.Statement.{statement}
 use Rattle.control.proofs.load.Tie as tie
 
@@ -14,7 +15,7 @@ gone : (c : tie.Then1) → isGone (c .before .before .reach .result) ≡ true
 gone c = sym (c .before .is-gone .ensures) ∙ c .if1 .taken
 
 in-storage : (c : tie.Then1) → let a = c .before .before .before .before .args in (a .f .a1 < length (a .s .now)) × (2 ≤ a .f .a1 + 1)
-in-storage c = there _ _ _ (c .before .before .reach .ensures) (gone c)
+in-storage c = reached-in _ 2 _ _ (c .before .before .reach .ensures) (gone c)
 
 shared-slice-read-loaded-status : tie.Need-shared-slice-read-loaded-status
 shared-slice-read-loaded-status c = in-storage (c .before .before .before) .0

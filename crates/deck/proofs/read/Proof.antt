@@ -9,7 +9,7 @@ use Rattle.deck.proofs.read.Statement.{statement}
 use Rattle.deck.proofs.read.Tie as tie
 
 -- in the arm of an accepted deck
-good : (c : tie.After-enum-told) → deckAnswer (c .before .before .before .before .before .args .deck .now) (length (c .before .before .before .before .before .args .s .now)) ≡ DeckRead
+good : (c : tie.After-enum-told) → let a = c .before .before .before .before .before .args in deckAnswer (a .deck .now) (length (a .s .now)) ≡ DeckRead
 good c = sym (c .before .before .verdict .ensures) ∙ c .enum-told .given .1
 
 lay-pages-requires : tie.Need-lay-pages-requires
@@ -24,7 +24,10 @@ returns c = rw (sym (c .before .before .before .before .verdict .ensures) ∙ c 
 
 returns-2 : tie.Need-returns-2
 unfolding readOf storageIn
-returns-2 c = rw (good (c .before .before .before .before .before .before .before .before .before), c .machine-in .ensures, c .before .before .before .lay-pages .ensures, c .before .before .before .before .before .before .before .clear .ensures)
+returns-2 c =
+    let p = c .before .before .before in
+    let z = p .before .before .before .before in
+    rw (good (z .before .before), c .machine-in .ensures, p .lay-pages .ensures, z .clear .ensures)
 
 pub read-spec : {M : Type 1} → statement M
 read-spec =

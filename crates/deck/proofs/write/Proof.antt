@@ -14,7 +14,7 @@ use Rattle.deck.proofs.write.Tie as tie
 sized : (c : tie.Else1) → sizeAllowed (length (c .before .before .before .before .args .s .now)) ≡ true
 sized c = sym (c .before .size-allowed .ensures) ∙ not-false _ (c .if1 .left)
 
-counted : (c : tie.After-deck-length) → c .deck-length .result ≡ length (deckOf (c .before .before .before .before .before .before .before .args .m) (c .before .before .before .before .before .before .before .args .s .now))
+counted : (c : tie.After-deck-length) → let a = c .before .before .before .before .before .before .before .args in c .deck-length .result ≡ length (deckOf (a .m) (a .s .now))
 counted c = let a = c .before .before .before .before .before .before .before .args in c .deck-length .ensures ∙ sym (length-parts (a .m) (a .s .now))
 
 returns : tie.Need-returns
@@ -37,8 +37,10 @@ write-deck-requires c κs = (sized (c .before .before .before .before .before), 
 returns-4 : tie.Need-returns-4
 unfolding writeOf statusAllowed
 returns-4 c =
-    let f = rw (counted (c .before .before .before .before .before)) at (c .before .before .before .before .if3 .left) in
-    rw (sized (c .before .before .before .before .before .before .before .before), lt-ltb _ 64 (c .before .before .before .before .before .before .if2 .left), le-leb _ _ f, counted (c .before .before .before .before .before), c .before .before .write-deck .ensures)
+    let k = c .before .before .before .before in
+    let n = counted (k .before) in
+    let f = rw n at (k .if3 .left) in
+    rw (sized (k .before .before .before .before), lt-ltb _ 64 (k .before .before .if2 .left), le-leb _ _ f, n, c .before .before .write-deck .ensures)
 
 pub write-spec : {M : Type 1} → statement M
 write-spec =

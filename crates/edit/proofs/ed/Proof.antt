@@ -7,7 +7,8 @@ use Prim.Native.Nat.{_+_, _≤_, _<_}
 use lib.ListN.{length, take}
 use Rattle.manual.proofs.FieldBytes.{bytes-length}
 use Rattle.parts.specs.Inside.{isGone}
-use Rattle.edit.proofs.Rules.{reached-in, source-in, ed-stops, source-stops, digit-stops, ed-goes}
+use Rattle.parts.proofs.Reaching.{reached-in}
+use Rattle.edit.proofs.Rules.{source-in, ed-stops, source-stops, digit-stops, ed-goes}
 use Rattle.edit.proofs.ed.Statement.{statement}
 use Rattle.edit.proofs.ed.Tie as tie
 

@@ -5,7 +5,8 @@ use mathlib.Core.Bool.{true}
 use Prim.Native.Nat.{_+_}
 use lib.ListN.{length}
 use Rattle.parts.specs.Inside.{isGone}
-use Rattle.edit.proofs.Rules.{reached-in, right-in, first-told, second-told, itc-goes, itc-stops}
+use Rattle.parts.proofs.Reaching.{reached-in}
+use Rattle.edit.proofs.Rules.{right-in, first-told, second-told, itc-goes, itc-stops}
 use Rattle.edit.proofs.itc.Statement.{statement}
 use Rattle.edit.proofs.itc.Tie as tie
 

@@ -5,7 +5,8 @@ use mathlib.Core.Bool.{true}
 use Prim.Native.Nat.{_<_}
 use lib.ListN.{length}
 use Rattle.parts.specs.Inside.{isGone}
-use Rattle.edit.proofs.Rules.{both-in, mvx-goes, mvx-stops}
+use Rattle.parts.proofs.Reaching.{both-reached}
+use Rattle.edit.proofs.Rules.{mvx-goes, mvx-stops}
 use Rattle.edit.proofs.mvx.Statement.{statement}
 use Rattle.edit.proofs.mvx.Tie as tie
 
@@ -16,7 +17,8 @@ passed c = sym (c .before .is-gone .ensures) ∙ c .if1 .taken
 there : (c : tie.Then1) → let a = c .before .before .before .before .args in (a .f .a1 < length (a .s .now)) × (a .f .a2 < length (a .s .now))
 there c =
     let a = c .before .before .before .before .args in
-    both-in (length (a .s .now)) (a .f .a1) (a .f .a2) _ (c .before .before .reach-both .ensures) (passed c)
+    let k = both-reached (length (a .s .now)) 1 (a .f .a1) 1 (a .f .a2) _ (c .before .before .reach-both .ensures) (passed c) in
+    (k .0 .0, k .1 .0)
 
 returns : tie.Need-returns
 returns c =

@@ -1,5 +1,5 @@
 -- `zoned::combine_way`: the tests stand in the definition's order.
-use mathlib.Core.Path.{_≡_, sym, _∙_}
+use mathlib.Core.Path.{sym, _∙_}
 use native.Mathlib.Omega.{arith}
 use borrow.Author.Needs.{needs}
 use Rattle.zoned.proofs.Ways.{ends-first, ends-second, zaz-ready}

@@ -1,14 +1,15 @@
 -- `zoned::combined`: signs that are the same ask for the sum of the sizes, others for their difference.
 use mathlib.Core.Path.{_≡_}
-use mathlib.Core.Bool.{not, Bool·beq}
-use Prim.Native.Nat.{ℕ, _-_, _<_}
+use mathlib.Core.Bool.{not}
+use Prim.Native.Nat.{_-_}
 use native.Mathlib.Omega.{arith}
 use borrow.Author.Needs.{needs}
 use lib.ListN.{getD, replicate}
 use Rattle.manual.specs.Zoned.{l1, l2}
 use Rattle.manual.proofs.FieldBytes.{written}
 use Rattle.zoned.specs.Working.{Operands}
-use Rattle.zoned.proofs.Settling.{same-sign, other-sign, operands, exact}
+use Rattle.zoned.proofs.Signs.{same-sign, other-sign}
+use Rattle.zoned.proofs.Combining.{operands, exact}
 use Rattle.zoned.proofs.combined.Statement.{statement}
 use Rattle.zoned.proofs.combined.Tie as tie
 

@@ -1,6 +1,6 @@
 -- `zoned::difference`: a carry tells that operand 1 has the larger size, and else the second pass turns the columns round.
 use borrow.Author.Needs.{needs}
-use Rattle.zoned.proofs.Settling.{more-left, less-left, again}
+use Rattle.zoned.proofs.Combining.{more-left, less-left, again}
 use Rattle.zoned.proofs.difference.Statement.{statement}
 use Rattle.zoned.proofs.difference.Tie as tie
 

@@ -1,11 +1,10 @@
 -- `zoned::digits_of`. The invariant: the digits so far are 9 or below.
-use mathlib.Core.Path.{_≡_, refl, sym, ap}
 use Prim.Native.Nat.{ℕ, _-_, _≤_, _<_}
 use native.Mathlib.Omega.{arith}
 use borrow.Author.Count.{below-none, below-more}
 use borrow.Author.Needs.{needs}
 use lib.ListN.{getD}
-use Rattle.manual.specs.Values.{bytesOf, digit, digitsOf}
+use Rattle.manual.specs.Values.{digit, digitsOf}
 use Rattle.manual.proofs.ZonedRead.{digits-read}
 use Rattle.zoned.proofs.Summing.{bad-digit}
 use Rattle.zoned.proofs.digits_of.Statement.{statement}

@@ -1,8 +1,8 @@
 -- `zoned::put_digits`. The invariant: the digits so far stand in the field, and `clear` tells whether they are zero.
 use mathlib.Core.Path.{_≡_, refl, sym, _∙_, ap}
-use mathlib.Core.Bool.{Bool, false}
+use mathlib.Core.Bool.{false}
 use mathlib.Core.Logic.{⊎-elim}
-use Prim.Native.Nat.{ℕ, _-_, _≤_, _%_, _^_}
+use Prim.Native.Nat.{_-_, _≤_, _%_, _^_}
 use native.Mathlib.Omega.{arith}
 use borrow.Author.Needs.{needs}
 use lib.Dec.{eqb}

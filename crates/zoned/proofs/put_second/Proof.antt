@@ -1,12 +1,12 @@
 -- `zoned::put_second`: the digits of the copy, finished, are operand 2's value.
 use mathlib.Core.Path.{_≡_}
-use Prim.Native.Nat.{ℕ, _-_, _<_}
+use Prim.Native.Nat.{_-_}
 use native.Mathlib.Omega.{arith}
 use borrow.Author.Needs.{needs}
 use lib.ListN.{getD, replicate}
 use Rattle.manual.specs.Zoned.{l2}
 use Rattle.manual.proofs.FieldBytes.{written}
-use Rattle.zoned.proofs.Settling.{copy-digits, zaz-left}
+use Rattle.zoned.proofs.Combining.{copy-digits, zaz-left}
 use Rattle.zoned.proofs.put_second.Statement.{statement}
 use Rattle.zoned.proofs.put_second.Tie as tie
 

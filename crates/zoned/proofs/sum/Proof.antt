@@ -1,6 +1,6 @@
 -- `zoned::sum`: its columns, finished, are the exact sum of two of one sign.
 use borrow.Author.Needs.{needs}
-use Rattle.zoned.proofs.Settling.{sum-left}
+use Rattle.zoned.proofs.Combining.{sum-left}
 use Rattle.zoned.proofs.sum.Statement.{statement}
 use Rattle.zoned.proofs.sum.Tie as tie
 

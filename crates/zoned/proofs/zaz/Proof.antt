@@ -1,5 +1,5 @@
 -- `zoned::zaz` does what the rule says: what stands in its way is tested first, and the rest puts operand 2.
-use mathlib.Core.Path.{_≡_, sym, _∙_}
+use mathlib.Core.Path.{sym, _∙_}
 use borrow.Author.Needs.{needs}
 use Rattle.parts.specs.Inside.{machineOf}
 use Rattle.zoned.proofs.Ways.{zaz-ready, zaz-stops, zaz-goes}

@@ -1,32 +1,36 @@
 -- Each way out goes by the tests that led there.
-use borrow.Author.Tests.{le-leb, lt-leb}
-use lib.ListN.{getD}
-use Rattle.deck.proofs.Reading.{none-left, some-left, order-kept, order-broken}
+use Rattle.deck.proofs.Reading.{asked-none, asked-low, asked-high, asked-order, asked-short, asked-whole}
 use borrow.Author.Needs.{needs}
 use Rattle.deck.proofs.reader.asked.Statement.{statement}
 use Rattle.deck.proofs.reader.asked.Tie as tie
 
 returns : tie.Need-returns
-returns c = simp (none-left _ (c .if1 .taken))
+returns c = let a = c .before .before .args in asked-none (a .d .now) (a .first) (c .if1 .taken)
 
 returns-2 : tie.Need-returns-2
-returns-2 c = simp (some-left _ (c .before .before .if1 .left), lt-leb _ _ (c .if2 .taken))
+returns-2 c = let a = c .before .before .before .before .args in asked-low (a .d .now) (a .first) (c .before .before .if1 .left) (c .if2 .taken)
 
 returns-3 : tie.Need-returns-3
-returns-3 c = simp (some-left _ (c .before .before .before .if1 .left), le-leb _ _ (c .before .if2 .left), lt-leb _ _ (c .if3 .taken))
+returns-3 c = let a = c .before .before .before .before .before .args in asked-high (a .d .now) (a .first) (c .before .before .before .if1 .left) (c .before .if2 .left) (c .if3 .taken)
 
 returns-4 : tie.Need-returns-4
-returns-4 c = simp (some-left _ (c .before .before .before .before .if1 .left), le-leb _ _ (c .before .before .if2 .left), le-leb _ _ (c .before .if3 .left), order-broken (getD (c .before .before .before .before .before .before .args .d .now) 0 0) (c .before .before .before .before .before .before .args .first) (c .if4 .taken))
+returns-4 c =
+    let a = c .before .before .before .before .before .before .args in
+    asked-order (a .d .now) (a .first) (c .before .before .before .before .if1 .left) (c .before .before .if2 .left) (c .before .if3 .left) (c .if4 .taken)
 
 returns-5 : tie.Need-returns-5
 returns-5 c =
+    let t = c .before .before in
+    let a = t .before .before .before .before .before .before .args in
     let g = rw (c .before .record-length .ensures) at (c .if5 .taken) in
-    simp (some-left _ (c .before .before .before .before .before .before .if1 .left), le-leb _ _ (c .before .before .before .before .if2 .left), le-leb _ _ (c .before .before .before .if3 .left), order-kept (getD (c .before .before .before .before .before .before .before .before .args .d .now) 0 0) (c .before .before .before .before .before .before .before .before .args .first) (c .before .before .if4 .left), lt-leb _ _ g)
+    asked-short (a .d .now) (a .first) (t .before .before .before .before .if1 .left) (t .before .before .if2 .left) (t .before .if3 .left) (t .if4 .left) g
 
 returns-6 : tie.Need-returns-6
 returns-6 c =
+    let t = c .before .before in
+    let a = t .before .before .before .before .before .before .args in
     let g = rw (c .before .record-length .ensures) at (c .if5 .left) in
-    simp (some-left _ (c .before .before .before .before .before .before .if1 .left), le-leb _ _ (c .before .before .before .before .if2 .left), le-leb _ _ (c .before .before .before .if3 .left), order-kept (getD (c .before .before .before .before .before .before .before .before .args .d .now) 0 0) (c .before .before .before .before .before .before .before .before .args .first) (c .before .before .if4 .left), le-leb _ _ g)
+    asked-whole (a .d .now) (a .first) (t .before .before .before .before .if1 .left) (t .before .before .if2 .left) (t .before .if3 .left) (t .if4 .left) g
 
 pub asked-spec : {M : Type 1} → statement M
 asked-spec =

@@ -28,16 +28,22 @@ part-put-end : tie.Need-part-put-end Inv-loop μ-loop
 part-put-end c = omega (arith, laying-fits (c .before .before .before .before .before .loop .inv .0) (c .before .before .before .if1 .taken))
 
 put-requires : tie.Need-put-requires Inv-loop μ-loop
-put-requires c κs = rw (page-span _, c .before .before .wide .ensures .0) (laying-room (c .before .before .before .before .before .before .loop .inv .0) (c .before .before .before .before .if1 .taken))
+put-requires c κs =
+    let t = c .before .before .before .before in
+    rw (page-span _, c .before .before .wide .ensures .0) (laying-room (t .before .before .loop .inv .0) (t .if1 .taken))
 
 loop-less : tie.Need-loop-less Inv-loop μ-loop
-loop-less c = omega (arith, laying-fits (c .before .before .before .before .before .before .before .before .before .loop .inv .0) (c .before .before .before .before .before .before .before .if1 .taken))
+loop-less c =
+    let t = c .before .before .before .before .before .before .before in
+    omega (arith, laying-fits (t .before .before .loop .inv .0) (t .if1 .taken))
 
 loop-again : tie.Need-loop-again Inv-loop μ-loop
 loop-again c =
     let p = c .before .before .put in
     let w = c .before .before .before .before .before .wide .ensures .0 in
-    (rw (p .ensures) (rw (page-span _, w) (laying-page (c .before .before .before .before .before .before .before .before .before .loop .inv .0) (c .before .before .before .before .before .before .before .if1 .taken))), p .kept .0 ∙ c .before .before .before .before .before .before .before .before .before .loop .inv .1)
+    let t = c .before .before .before .before .before .before .before in
+    let l = t .before .before .loop .inv in
+    (rw (p .ensures) (rw (page-span _, w) (laying-page (l .0) (t .if1 .taken))), p .kept .0 ∙ l .1)
 
 returns : tie.Need-returns Inv-loop μ-loop
 returns c = sym (laying-end (c .before .before .loop .inv .0) (c .if1 .left))

@@ -19,17 +19,21 @@ abbrev μ-loop : tie.MeasureT-loop
 
 -- what `later` says at a place is what the rule says of the deck from there on
 found : (c : tie.After-later Inv-loop μ-loop)
-    → laterRecord (drop (c .before .before .loop .at) (c .before .before .before .before .args .deck .now)) (c .before .before .before .before .args .pages) (c .before .before .loop .next) DeckRead ≡ c .later .result
+    → let a = c .before .before .before .before .args in
+    let l = c .before .before .loop in
+    laterRecord (drop (l .at) (a .deck .now)) (a .pages) (l .next) DeckRead ≡ c .later .result
 found c = let l = c .before .before .loop in sym (rw (tail (c .before .before .before .before .args .deck .now) (l .at) (l .inv .inside)) at (c .later .ensures))
 
 -- in the arm of a record that is not refused
 told : (c : tie.After-enum-told Inv-loop μ-loop)
-    → laterRecord (drop (c .before .before .before .before .loop .at) (c .before .before .before .before .before .before .args .deck .now)) (c .before .before .before .before .before .before .args .pages) (c .before .before .before .before .loop .next) DeckRead ≡ DeckRead
+    → let a = c .before .before .before .before .before .before .args in
+    let l = c .before .before .before .before .loop in
+    laterRecord (drop (l .at) (a .deck .now)) (a .pages) (l .next) DeckRead ≡ DeckRead
 told c = found (c .before .before) ∙ c .enum-told .given .1
 
 -- past the test for a page
-paged : (c : tie.Else1 Inv-loop μ-loop) → c .before .before .before .before .before .before .loop .at + 258 ≤ length (c .before .before .before .before .before .before .before .before .args .deck .now)
-paged c = reading-fits (c .before .before .before .before .before .before .loop .inv) (told (c .before .before)) (c .if1 .left)
+page-fits : (c : tie.Else1 Inv-loop μ-loop) → c .before .before .before .before .before .before .loop .at + 258 ≤ length (c .before .before .before .before .before .before .before .before .args .deck .now)
+page-fits c = reading-fits (c .before .before .before .before .before .before .loop .inv) (told (c .before .before)) (c .if1 .left)
 
 loop-holds : tie.Need-loop-holds Inv-loop μ-loop
 loop-holds c = reading-starts _ _ (search needs)
@@ -44,19 +48,21 @@ returns-2 : tie.Need-returns-2 Inv-loop μ-loop
 returns-2 c = sym (reading-end (c .before .before .before .before .before .before .loop .inv) (told (c .before .before)) (c .if1 .taken))
 
 add-wide : tie.Need-add-wide Inv-loop μ-loop
-add-wide c = omega (arith, paged c)
+add-wide c = omega (arith, page-fits c)
 
 shared-slice-read-wide : tie.Need-shared-slice-read-wide Inv-loop μ-loop
-shared-slice-read-wide c = omega (arith, paged (c .before))
+shared-slice-read-wide c = omega (arith, page-fits (c .before))
 
 add-at : tie.Need-add-at Inv-loop μ-loop
-add-at c = omega (arith, paged (c .before .before))
+add-at c = omega (arith, page-fits (c .before .before))
 
 loop-less : tie.Need-loop-less Inv-loop μ-loop
-loop-less c = omega (arith, paged (c .before .before))
+loop-less c = omega (arith, page-fits (c .before .before))
 
 loop-again : tie.Need-loop-again Inv-loop μ-loop
-loop-again c = rw (c .wide .ensures .0) (reading-page (c .before .before .before .before .before .before .before .before .loop .inv) (told (c .before .before .before .before)) (c .before .before .if1 .left))
+loop-again c =
+    let t = c .before .before in
+    rw (c .wide .ensures .0) (reading-page (t .before .before .before .before .before .before .loop .inv) (told (t .before .before)) (t .if1 .left))
 
 pub rest-spec : {M : Type 1} → statement M
 rest-spec =

@@ -43,9 +43,11 @@ same-length c = simp length-set (c .before .before .write-pages .kept .1 .0 ∙ 
 
 returns : tie.Need-returns
 returns c =
-    let a = c .before .before .before .before .before .before .before .before .before .before .before .before .args in
     let w = c .before .before .write-pages in
-    rw (w .ensures .1, w .ensures .0, c .before .before .before .before .before .before .put .ensures, c .before .before .before .before .before .before .before .before .before .machine-record .ensures) (deck-over (a .m) (a .s .now) (a .out .now) (c .before .before .before .before .before .before .before .before .before .before .before .before .pre .1))
+    let p = c .before .before .before .before .before .before in
+    let r = p .before .before .before in
+    let k = r .before .before .before in
+    rw (w .ensures .1, w .ensures .0, p .put .ensures, r .machine-record .ensures) (deck-over (k .args .m) (k .args .s .now) (k .args .out .now) (k .pre .1))
 
 pub write-deck-spec : {M : Type 1} → statement M
 write-deck-spec =
