@@ -1,0 +1,17 @@
+-- The text that a line holds, at the front of its 64 bytes, and what appending to it does.
+use Prim.Native.Nat.{ℕ, _+_, _≤_}
+use mathlib.Core.Path.{_≡_}
+use mathlib.Core.List.{List, _++_}
+use lib.ListN.{length, take}
+use Rattle.runner.specs.declared.Printed.{Printed}
+
+abbrev pub text : Printed → List ℕ
+text l = take (l .length) (l .bytes)
+
+-- n more bytes have room
+abbrev pub Room : Printed → ℕ → Type 0
+Room l n = (length (l .bytes) ≡ 64) × (l .length + n ≤ 64)
+
+-- r is l with t appended, n bytes
+abbrev pub Adds : Printed → List ℕ → ℕ → Printed → Type 0
+Adds l t n r = (text r ≡ text l ++ t) × (r .length ≡ l .length + n) × (length (r .bytes) ≡ 64)
