@@ -1,23 +1,10 @@
-// The record 01, the lengths of records, and which storages there are.
+// The record 01, and the lengths of records.
 use crate::bytes;
 use manual::Machine;
 ghost use mathlib.Core.Path.{_≡_};
 ghost use Prim.Native.Nat.{_≤_};
 ghost use lib.ListN.{length};
-ghost use Rattle.manual.specs.TheMachine.{sizeAllowed};
 ghost use Rattle.manual.specs.Deck.{recordLength, machineIn, machineRecord, zeroed};
-
-pub(crate) fn size_allowed(size: usize) -> bool
-    ensures { λ r. ⌜ r ≡ sizeAllowed size ⌝ }
-{
-    if size < 256 {
-        return false;
-    }
-    if 65536 < size {
-        return false;
-    }
-    size % 256 == 0
-}
 
 pub(crate) fn zeroed() -> Machine
     ensures { λ r. ⌜ r ≡ zeroed ⌝ }

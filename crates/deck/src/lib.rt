@@ -43,7 +43,7 @@ pub fn read(deck: &[u8], s: &mut [u8]) -> DeckOut
 pub fn write(m: Machine, s: &[u8], out: &mut [u8]) -> WriteAnswer
     ensures { λ r. ⌜ WroteAs m (now (s .entry)) (now (out .entry)) r (now (out .exit)) ⌝ }
 {
-    if !format::size_allowed(s.len()) {
+    if !parts::size_allowed(s.len()) {
         return WriteAnswer::NotWritten(WriteFault::SizeNotAllowed);
     }
     if 64 <= m.status {
@@ -61,7 +61,7 @@ pub fn write(m: Machine, s: &[u8], out: &mut [u8]) -> WriteAnswer
 pub fn length(m: Machine, s: &[u8]) -> usize
     ensures { λ r. ⌜ r ≡ cond (sizeAllowed (length (now (s .entry)))) (length (deckOf m (now (s .entry)))) 0 ⌝ }
 {
-    if !format::size_allowed(s.len()) {
+    if !parts::size_allowed(s.len()) {
         return 0;
     }
     writer::deck_length(s)

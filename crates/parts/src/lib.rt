@@ -3,7 +3,7 @@ ghost use mathlib.Core.Path.{_≡_};
 ghost use mathlib.Core.Bool.{Bool, true, cond};
 ghost use Prim.Native.Nat.{_+_, _*_, _/_, _%_, _<_, _≤_};
 ghost use lib.ListN.{length, getD, set};
-ghost use Rattle.manual.specs.TheMachine.{setOrder, orderOf, turnOn, testFalse};
+ghost use Rattle.manual.specs.TheMachine.{sizeAllowed, setOrder, orderOf, turnOn, testFalse};
 ghost use Rattle.manual.specs.Programs.{andThen};
 ghost use Rattle.manual.specs.Formats.{reach, reachRight};
 ghost use Rattle.manual.specs.Logical.{sumStatus, differenceStatus};
@@ -114,6 +114,21 @@ pub fn reach_both(size: usize, n1: usize, a1: usize, n2: usize, a2: usize) -> En
         return reach(size, n2, a2);
     }
     one
+}
+
+// ---- the storage
+
+// 256 to 65,536 bytes, a multiple of 256.
+pub fn size_allowed(n: usize) -> bool
+    ensures { λ r. ⌜ r ≡ sizeAllowed n ⌝ }
+{
+    if n < 256 {
+        return false;
+    }
+    if 65536 < n {
+        return false;
+    }
+    n % 256 == 0
 }
 
 // ---- bytes

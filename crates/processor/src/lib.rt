@@ -3,7 +3,6 @@ ghost use mathlib.Core.Path.{_≡_};
 ghost use mathlib.Core.Bool.{Bool};
 ghost use Prim.Native.Nat.{_+_, _<_, _≤_};
 ghost use lib.ListN.{length, getD};
-ghost use Rattle.manual.specs.TheMachine.{sizeAllowed, budgetAllowed, statusAllowed};
 ghost use Rattle.manual.specs.Step.{exec, SteppedAs};
 ghost use Rattle.manual.specs.Run.{ranOutcome, turnsOf, RanAs};
 ghost use Rattle.parts.specs.Inside.{machineOf, isGone, answerAt, Within, LeafDoes, StepDoes};
@@ -196,18 +195,6 @@ fn turns(m: Machine, s: &mut [u8], budget: u32) -> Ran
 
 // ---- published
 
-fn size_allowed(n: usize) -> bool
-    ensures { λ r. ⌜ r ≡ sizeAllowed n ⌝ }
-{
-    if n < 256 {
-        return false;
-    }
-    if 65536 < n {
-        return false;
-    }
-    n % 256 == 0
-}
-
 fn stepped(m: Machine, a: Answer) -> Stepped
     ensures { λ r. ⌜ r ≡ record { machine = m; answer = a } ⌝ }
 {
@@ -221,7 +208,7 @@ fn stepped(m: Machine, a: Answer) -> Stepped
 pub fn step(m: Machine, s: &mut [u8]) -> Stepped
     ensures { λ r. ⌜ SteppedAs m (now (s .entry)) r (now (s .exit)) ⌝ }
 {
-    if size_allowed(s.len()) {
+    if parts::size_allowed(s.len()) {
         if m.status < 64 {
             let t = turns(m, s, 1);
             let n = t.machine;
@@ -237,7 +224,7 @@ pub fn step(m: Machine, s: &mut [u8]) -> Stepped
 pub fn run(m: Machine, s: &mut [u8], budget: u32) -> Ran
     ensures { λ r. ⌜ RanAs m (now (s .entry)) budget r (now (s .exit)) ⌝ }
 {
-    if size_allowed(s.len()) {
+    if parts::size_allowed(s.len()) {
         if budget <= 16777216 {
             if m.status < 64 {
                 return turns(m, s, budget);

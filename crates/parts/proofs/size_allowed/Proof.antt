@@ -1,10 +1,10 @@
--- `processor::size_allowed`: the code's tests are the rule's.
+-- `parts::size_allowed`: the code's tests are the rule's.
 use mathlib.Core.Path.{refl}
 use borrow.Author.Needs.{needs}
 use borrow.Author.Tests.{le-leb, lt-leb}
 use Rattle.manual.specs.TheMachine.{sizeAllowed}
-use Rattle.processor.proofs.size_allowed.Statement.{statement}
-use Rattle.processor.proofs.size_allowed.Tie as tie
+use Rattle.parts.proofs.size_allowed.Statement.{statement}
+use Rattle.parts.proofs.size_allowed.Tie as tie
 
 returns : tie.Need-returns
 unfolding sizeAllowed
