@@ -17,7 +17,8 @@ use Rattle.manual.specs.Programs.{Prog, ret, rd, wr, val, fin, Out, stop
 use Rattle.manual.specs.TheMachine.{sizeAllowed, statusAllowed}
 use Rattle.manual.specs.Step.{Outcome, ended, settle, given, did, step, innerStep, stepOf}
 use Rattle.manual.specs.Run.{RanOutcome, ran, countAfter, moreOf, more, turnsOf, runOf}
-use Rattle.manual.proofs.Runs.{addSteps, Entered, not-refused, not-stopped, more-steps, one-more, runs-on, budget-below, run-entered, run-by}
+use Rattle.manual.specs.When.{Entered}
+use Rattle.manual.proofs.Runs.{addSteps, not-refused, not-stopped, more-steps, one-more, runs-on, budget-below, run-entered, run-by}
 use Rattle.manual.proofs.Bounds.{Bounded, BoundedAnswer, BoundedOut, keeps}
 use Rattle.manual.proofs.OperationBounds.{keeps-step}
 

@@ -14,7 +14,8 @@ use Rattle.manual.specs.TheMachine.{sizeAllowed, budgetAllowed, statusAl
 use Rattle.manual.specs.Numbers.{numberOf}
 use Rattle.manual.specs.Step.{innerStep}
 use Rattle.manual.specs.Run.{RanOutcome, moreOf, more, turnsOf, runOf}
-use Rattle.manual.proofs.Runs.{Entered, run-entered}
+use Rattle.manual.specs.When.{Entered}
+use Rattle.manual.proofs.Runs.{run-entered}
 use Rattle.manual.proofs.Keeps.{inner-stop-keeps}
 
 -- where the run o didn't return 0, one step more would stop just so

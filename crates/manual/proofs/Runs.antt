@@ -19,6 +19,7 @@ use Rattle.manual.specs.declared.Stepped.{Stepped}
 use Rattle.manual.specs.Numbers.{numberOf}
 use Rattle.manual.specs.TheMachine.{sizeAllowed, budgetAllowed, statusAllowed}
 use Rattle.manual.specs.Step.{Outcome, outcome, ended, innerStep}
+use Rattle.manual.specs.When.{Entered}
 use Rattle.manual.specs.Run.{RanOutcome, ran, countAfter, counted, moreOf, more, turnsOf, runOf}
 
 -- a run's outcome without its count
@@ -42,12 +43,6 @@ thenRun o k = thenRunOf (o .gave .ended .answer) o k
 pub record Within (k : ℕ) (o : RanOutcome) : Type 0 where
   pub most : o .gave .ended .steps ≤ k
   pub all : numberOf (o .gave .ended .answer) ≡ 0 → o .gave .ended .steps ≡ k
-
--- nothing refuses the run at entry
-pub record Entered (m : Machine) (s : List ℕ) (b : ℕ) : Type 0 where
-  pub size : sizeAllowed (length s) ≡ true
-  pub budget : budgetAllowed b ≡ true
-  pub status : statusAllowed (m .status) ≡ true
 
 -- ---- answers
 

@@ -10,12 +10,13 @@ use Rattle.manual.specs.declared.Stepped.{Stepped}
 use Rattle.manual.specs.declared.Ran.{Ran}
 use Rattle.manual.specs.TheMachine.{budgetAllowed}
 use Rattle.manual.specs.Numbers.{numberOf}
-use Rattle.manual.specs.When.{When}
+use Rattle.manual.specs.When.{When, Entered, RunWhen}
 use Rattle.manual.specs.Step.{Outcome, stepOf, SteppedAs}
 use Rattle.manual.specs.Run.{RanOutcome, ranOutcome, more, runOf, RanAs}
 use Rattle.manual.proofs.WhenEach.{when-exactly}
+use Rattle.manual.proofs.RunWhenEach.{run-when-exactly}
 use Rattle.manual.proofs.Keeps.{stop-keeps, length-keeps, run-length-keeps, run-as-counted, AsCounted}
-use Rattle.manual.proofs.Runs.{Within, Entered, thenRun, run-within, run-more, run-stays, run-in-two}
+use Rattle.manual.proofs.Runs.{Within, thenRun, run-within, run-more, run-stays, run-in-two}
 use Rattle.manual.proofs.RunStops.{StopsThere, run-stops-there}
 
 module _ (m : Machine) (s : List ℕ) (r : Stepped) (t : List ℕ) (p : SteppedAs m s r t) where
@@ -33,6 +34,10 @@ module _ (m : Machine) (s : List ℕ) (r : Stepped) (t : List ℕ) (p : SteppedA
 module _ (m : Machine) (s : List ℕ) (b : ℕ) (r : Ran) (t : List ℕ) (p : RanAs m s b r t) where
   by-run : (P : RanOutcome → Type 0) → P (runOf m s b) → P (ranOutcome r t)
   by-run P h = subst P (sym p) h
+
+  -- a run answers a number exactly when the table's row for it holds
+  pub run-answers-when : (n : ℕ) → (numberOf (r .ended .answer) ≡ n) ↔ RunWhen m s b n
+  run-answers-when n = by-run (λ o. (numberOf (o .gave .ended .answer) ≡ n) ↔ RunWhen m s b n) (run-when-exactly m s b n)
 
   -- steps are never above the budget, and the whole budget where the run answers 0
   pub counts : Within b (ranOutcome r t)
