@@ -17,6 +17,8 @@ use Rattle.manual.specs.Numbers.{told, faultNumber}
 use Rattle.manual.specs.Run.{ranOutcome, runOf}
 use Rattle.manual.specs.Deck.{machineIn, storageIn, deckAnswer, readWith, readOutcome, readOf}
 use Rattle.manual.specs.Runner.{numberLine, runLine, tooLarge, lentSize, budget, ranLine, readLine, lineOf}
+use Rattle.runner.specs.declared.Printed.{Printed}
+use Rattle.runner.specs.Text.{printed}
 
 -- two storages of the same size give the same line
 same-line :
@@ -35,13 +37,13 @@ read-line d s e h =
 
 -- reading gave r and left t
 pub refused-line :
-    (d s : List ℕ) (r : DeckOut) (t : List ℕ) (x : DeckFault) (n : ℕ) {l : List ℕ} → tooLarge d ≡ false → length s ≡ lentSize d → readOutcome r t ≡ readOf d s
-    → r .answer ≡ DeckRefused x → n ≡ faultNumber x → l ≡ numberLine n → l ≡ lineOf d
-refused-line d s r t x n e h p a q hl = rw (read-line d s e h, ← p, a) (hl ∙ ap numberLine q)
+    (d s : List ℕ) (r : DeckOut) (t : List ℕ) (x : DeckFault) (n : ℕ) {l : Printed} → tooLarge d ≡ false → length s ≡ lentSize d → readOutcome r t ≡ readOf d s
+    → r .answer ≡ DeckRefused x → n ≡ faultNumber x → l ≡ printed (numberLine n) → l ≡ printed (lineOf d)
+refused-line d s r t x n e h p a q hl = rw (read-line d s e h, ← p, a) (hl ∙ ap (λ (k : ℕ). printed (numberLine k)) q)
 
 pub ran-line :
-    (d s : List ℕ) (r : DeckOut) (t : List ℕ) (g : Ran) (u : List ℕ) {l : List ℕ} → tooLarge d ≡ false → length s ≡ lentSize d → readOutcome r t ≡ readOf d s
-    → r .answer ≡ DeckRead → ranOutcome g u ≡ runOf (r .machine) t budget → l ≡ runLine (g .machine) (told (g .ended)) → l ≡ lineOf d
+    (d s : List ℕ) (r : DeckOut) (t : List ℕ) (g : Ran) (u : List ℕ) {l : Printed} → tooLarge d ≡ false → length s ≡ lentSize d → readOutcome r t ≡ readOf d s
+    → r .answer ≡ DeckRead → ranOutcome g u ≡ runOf (r .machine) t budget → l ≡ printed (runLine (g .machine) (told (g .ended))) → l ≡ printed (lineOf d)
 ran-line d s r t g u e h p a q hl = rw (read-line d s e h, ← p, a, ← q) hl
 
 pub large-line : (d : List ℕ) → tooLarge d ≡ true → lineOf d ≡ numberLine 18

@@ -5,10 +5,10 @@ mod text;
 ghost use mathlib.Core.Path.{_≡_};
 ghost use mathlib.Core.Bool.{false};
 ghost use Prim.Native.Nat.{_≤_};
-ghost use lib.ListN.{length, take, getD};
+ghost use lib.ListN.{length, getD};
 ghost use Rattle.manual.specs.Numbers.{told};
 ghost use Rattle.manual.specs.Runner.{tooLarge, lentSize, numberLine, runLine, lineOf};
-ghost use Rattle.runner.specs.Text.{text};
+ghost use Rattle.runner.specs.Text.{printed};
 use manual::Ended;
 use manual::Machine;
 use manual::ReadAnswer;
@@ -22,14 +22,14 @@ pub struct Printed {
 // ---- the two kinds of line
 
 fn number_line(n: u8) -> Printed
-    ensures { λ r. ⌜ (text r ≡ numberLine n) × (r .length ≤ length (r .bytes)) ⌝ }
+    ensures { λ r. ⌜ (r ≡ printed (numberLine n)) × (r .length ≤ length (r .bytes)) ⌝ }
 {
     let l = text::with_decimal(text::nothing(), n as u32, 8);
     text::with_byte(l, 10)
 }
 
 fn run_line(m: Machine, e: Ended) -> Printed
-    ensures { λ r. ⌜ (text r ≡ runLine m (told e)) × (r .length ≤ length (r .bytes)) ⌝ }
+    ensures { λ r. ⌜ (r ≡ printed (runLine m (told e))) × (r .length ≤ length (r .bytes)) ⌝ }
 {
     let a = e.answer;
     let number = text::with_digit(text::nothing(), answers::number_of(a));
@@ -65,7 +65,7 @@ fn too_large(deck: &[u8]) -> bool
 // The line of a deck that isn't too large, read into the storage `s`, whatever that holds.
 fn answered(deck: &[u8], s: &mut [u8]) -> Printed
     requires { ⌜ (tooLarge (now deck) ≡ false) × (length (now s) ≡ lentSize (now deck)) ⌝ }
-    ensures { λ r. ⌜ (text r ≡ lineOf (now (deck .entry))) × (r .length ≤ length (r .bytes)) ⌝ }
+    ensures { λ r. ⌜ (r ≡ printed (lineOf (now (deck .entry)))) × (r .length ≤ length (r .bytes)) ⌝ }
 {
     let read = deck::read(deck, s);
     let answer = read.answer;
@@ -82,14 +82,14 @@ fn answered(deck: &[u8], s: &mut [u8]) -> Printed
 // Lends as much of the storage as the deck asks for.
 fn lent(deck: &[u8], storage: &mut [u8]) -> Printed
     requires { ⌜ (tooLarge (now deck) ≡ false) × (length (now storage) ≡ 16384) ⌝ }
-    ensures { λ r. ⌜ (text r ≡ lineOf (now (deck .entry))) × (r .length ≤ length (r .bytes)) ⌝ }
+    ensures { λ r. ⌜ (r ≡ printed (lineOf (now (deck .entry)))) × (r .length ≤ length (r .bytes)) ⌝ }
 {
     let size = (second(deck) as usize + 1) * 256;
     answered(deck, &mut storage[0..size])
 }
 
 pub fn line(deck: &[u8]) -> Printed
-    ensures { λ r. ⌜ (take (r .length) (r .bytes) ≡ lineOf (now (deck .entry))) × (r .length ≤ length (r .bytes)) ⌝ }
+    ensures { λ r. ⌜ (r ≡ printed (lineOf (now (deck .entry)))) × (r .length ≤ length (r .bytes)) ⌝ }
 {
     if too_large(deck) {
         return number_line(18);

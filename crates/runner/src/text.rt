@@ -4,12 +4,12 @@ ghost use mathlib.Core.List.{[], _∷_, _++_};
 ghost use Prim.Native.Nat.{_+_, _<_, _≤_};
 ghost use lib.ListN.{length};
 ghost use Rattle.manual.specs.Runner.{character, blank, byteText, wordText, decimal, registersText};
-ghost use Rattle.runner.specs.Text.{text, Room, Adds};
+ghost use Rattle.runner.specs.Text.{text, Behind, Room, Adds};
 use crate::Printed;
 use manual::Machine;
 
 pub(crate) fn nothing() -> Printed
-    ensures { λ r. ⌜ (text r ≡ []) × (r .length ≡ 0) × (length (r .bytes) ≡ 64) ⌝ }
+    ensures { λ r. ⌜ (text r ≡ []) × (r .length ≡ 0) × (length (r .bytes) ≡ 64) × Behind r ⌝ }
 {
     let bytes = [0u8; 64];
     Printed { bytes, length: 0 }
@@ -80,7 +80,7 @@ pub(crate) fn with_registers(l: Printed, m: Machine) -> Printed
 // At most that many digits of x, which are all of them if there are no more.
 pub(crate) fn with_decimal(l: Printed, x: u32, places: usize) -> Printed
     requires { ⌜ Room l places ⌝ }
-    ensures { λ r. ⌜ (text r ≡ text l ++ decimal places x) × (r .length ≤ l .length + places) × (length (r .bytes) ≡ 64) ⌝ }
+    ensures { λ r. ⌜ (text r ≡ text l ++ decimal places x) × (r .length ≤ l .length + places) × (length (r .bytes) ≡ 64) × (Behind l → Behind r) ⌝ }
 {
     if places == 0 {
         return l;

@@ -1,6 +1,7 @@
 -- `runner::line`: 18 before anything else, then the deck.
-use mathlib.Core.Path.{refl, sym, _∙_}
+use mathlib.Core.Path.{refl, ap, sym, _∙_}
 use borrow.Author.Needs.{needs}
+use Rattle.runner.specs.Text.{printed}
 use Rattle.runner.proofs.Decided.{large-line}
 use Rattle.runner.proofs.line.Statement.{statement}
 use Rattle.runner.proofs.line.Tie as tie
@@ -8,7 +9,7 @@ use Rattle.runner.proofs.line.Tie as tie
 returns : tie.Need-returns
 returns c =
     let t = c .before .before in
-    (c .number-line .ensures .0 ∙ sym (large-line (t .before .before .args .deck .now) (sym (t .too-large .ensures) ∙ c .before .if1 .taken)), c .number-line .ensures .1)
+    (c .number-line .ensures .0 ∙ ap printed (sym (large-line (t .before .before .args .deck .now) (sym (t .too-large .ensures) ∙ c .before .if1 .taken))), c .number-line .ensures .1)
 
 lent-requires : tie.Need-lent-requires
 lent-requires c κs = (sym (c .before .before .too-large .ensures) ∙ c .before .if1 .left, refl)

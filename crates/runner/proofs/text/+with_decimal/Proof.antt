@@ -34,7 +34,7 @@ with-decimal-returns : (t : ℕ) → with-decimal-lts.Need-returns (
   with-decimal-below t,
   with-decimal.Post,
 ) (with-decimal-at t) with-decimal.Post
-with-decimal-returns t c = (decimal-none _ _ _ (c .if1 .taken), omega arith, omega arith)
+with-decimal-returns t c = (decimal-none _ _ _ (c .if1 .taken), omega arith, omega arith, λ h. h)
 
 with-decimal-cast-with-digit : (t : ℕ) → with-decimal-lts.Need-cast-with-digit (
   with-digit-reads.Asked,
@@ -58,7 +58,7 @@ with-decimal-returns-2 : (t : ℕ) → with-decimal-lts.Need-returns-2 (
   with-decimal-below t,
   with-decimal.Post,
 ) (with-decimal-at t) with-decimal.Post
-with-decimal-returns-2 t c = (rw (decimal-last _ _ (c .before .before .if1 .left) (c .before .if2 .taken)) (c .with-digit .ensures .0), omega arith, omega arith)
+with-decimal-returns-2 t c = (rw (decimal-last _ _ (c .before .before .if1 .left) (c .before .if2 .taken)) (c .with-digit .ensures .0), omega arith, omega arith, c .with-digit .ensures .3)
 
 with-decimal-sub-with-decimal : (t : ℕ) → with-decimal-lts.Need-sub-with-decimal (
   with-digit-reads.Asked,
@@ -100,7 +100,7 @@ with-decimal-returns-3 : (t : ℕ) → with-decimal-lts.Need-returns-3 (
 ) (with-decimal-at t) with-decimal.Post
 with-decimal-returns-3 t c =
     let e = c .before .before in
-    (rw (c .with-digit2 .ensures .0, c .before .with-decimal .ensures .0, decimal-more _ _ (e .before .if1 .left) (e .if2 .left), append-assoc), omega arith, omega arith)
+    (rw (c .with-digit2 .ensures .0, c .before .with-decimal .ensures .0, decimal-more _ _ (e .before .if1 .left) (e .if2 .left), append-assoc), omega arith, omega arith, λ h. c .with-digit2 .ensures .3 (c .before .with-decimal .ensures .3 h))
 
 pub +with-decimal-spec : {M : Type 1} → statement M
 +with-decimal-spec = close μ-with-decimal λ t. with-decimal-lts.spec (

@@ -5,10 +5,10 @@ use Rattle.runner.proofs.text.with_digit.Statement.{statement}
 use Rattle.runner.proofs.text.with_digit.Tie as tie
 
 returns : tie.Need-returns
-returns c = (rw (lt-ltb _ _ (c .before .if1 .taken)) (c .with-byte .ensures .0), c .with-byte .ensures .1, c .with-byte .ensures .2)
+returns c = (rw (lt-ltb _ _ (c .before .if1 .taken)) (c .with-byte .ensures .0), c .with-byte .ensures .1, c .with-byte .ensures .2, c .with-byte .ensures .3)
 
 returns-2 : tie.Need-returns-2
-returns-2 c = (rw (le-ltb _ _ (c .before .if1 .left)) (c .with-byte2 .ensures .0), c .with-byte2 .ensures .1, c .with-byte2 .ensures .2)
+returns-2 c = (rw (le-ltb _ _ (c .before .if1 .left)) (c .with-byte2 .ensures .0), c .with-byte2 .ensures .1, c .with-byte2 .ensures .2, c .with-byte2 .ensures .3)
 
 pub with-digit-spec : {M : Type 1} → statement M
 with-digit-spec =

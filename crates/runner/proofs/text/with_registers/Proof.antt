@@ -20,6 +20,8 @@ returns c =
           (c .before .before .before .with-word5 .ensures .0) (c .before .before .with-word6 .ensures .0) (c .before .with-word7 .ensures .0) (c .with-word8 .ensures .0),
       omega arith,
       omega arith,
+      λ h. c .with-word8 .ensures .3 (c .before .with-word7 .ensures .3 (c .before .before .with-word6 .ensures .3 (c .before .before .before .with-word5 .ensures .3
+          (d .with-word4 .ensures .3 (d .before .with-word3 .ensures .3 (d .before .before .with-word2 .ensures .3 (d .before .before .before .with-word .ensures .3 h))))))),
     )
 
 pub with-registers-spec : {M : Type 1} → statement M
