@@ -1,11 +1,11 @@
 -- What the manual's decoding comes to where the form and the operation are known. What carries it: the instruction's bytes stand in storage from its address on.
-use mathlib.Core.Path.{_≡_, refl, sym, _∙_}
-use mathlib.Core.Bool.{Bool, true, false, cond, not}
+use mathlib.Core.Path.{_≡_, refl, ap, sym, _∙_}
+use mathlib.Core.Bool.{Bool, true, false, cond, _||_, true≢false, false≢true}
 use mathlib.Core.List.{List, [], _∷_}
 use Prim.Native.Nat.{ℕ, _+_, _-_, _/_, _%_, _<_}
 use native.Mathlib.Omega.{arith}
 use native.Mathlib.Nat.{add-zero, add-assoc}
-use lib.Dec.{T, ltb}
+use lib.Dec.{T, ltb, leb, eqb, eqb→eq}
 use lib.ListN.{length, getD}
 use borrow.Author.Tests.{lt-leb}
 use Rattle.manual.specs.declared.Operation.{Operation}
@@ -26,7 +26,8 @@ use Rattle.parts.specs.declared.Core.{Core}
 use Rattle.parts.specs.Inside.{machineOf}
 use Rattle.decode.specs.declared.Fetched.{Fetched}
 use Rattle.decode.specs.declared.Fetched.the-variants.{Go, PastStorage, Unnamed, QNotAllowed}
-use Rattle.decode.specs.Fetching.{fetchedOf, wholly, allowing, oneAt, singleOf, thirdOf, doubleOf, isUnknown, isPairOr, unlisted}
+use Rattle.decode.specs.Fetching.{fetchedOf, wholly, allowing, allowsNamed, oneAt, singleOf, thirdOf, doubleOf, isUnknown, isPairOr, unlisted}
+use Rattle.parts.proofs.Computed.{allBelow, all-at}
 use Rattle.decode.proofs.Rest.{Rest, Passed, by-rest}
 
 -- the order of the stops: 4, then 6
@@ -114,16 +115,46 @@ pub unnamed : (c : Core) (s : List ℕ) (a o : ℕ) → T (unlisted o) → (form
 unfolding unlisted
 unnamed c s a o t h = rw (no-name (formOf (o / 16) .group) (operationOf o) t (λ g. rw g (unfold namedOf in h g)))
 
--- the left digits of the other opcodes aren't those of two addresses
+-- ---- the Q bytes of two addresses
+
+-- MVX's right digit apart, every Q byte is allowed
+abbrev allAllowed : ℕ → Bool
+allAllowed k = allBelow (λ q. allowsNamed (getD twoAddress k Unknown) q) 256
+
+all-free : Passed (8 ∷ []) allAllowed
+unfolding allowed
+all-free = tt
+
+is-true : (b : Bool) → T b → b ≡ true
+is-true true t = refl
+is-true false t = absurd t
+
+pub others-allow : (k q : ℕ) → k < 256 → q < 256 → (k ≡ 8 → ⊥) → allowsNamed (getD twoAddress k Unknown) q ≡ true
+others-allow k q h l n =
+    is-true _ (all-at (λ q. allowsNamed (getD twoAddress k Unknown) q) 256 (by-rest (8 ∷ []) allAllowed all-free k h (tt, n)) q l)
+
+-- what a digit allows, the operation that it names allows
+pub digit-allows : (n : Named) (op : Operation) (q : ℕ) (b : Bool) → n ≡ Known op → b ≡ allowsNamed n q → allowed op q ≡ b
+digit-allows n op q b e h = sym (h ∙ ap (λ (k : Named). allowsNamed k q) e)
+
+-- the left digit that a match on the others leaves
 abbrev pub digits : List ℕ
-digits = 10 ∷ 9 ∷ 8 ∷ 6 ∷ 5 ∷ 4 ∷ 2 ∷ 1 ∷ 0 ∷ []
+digits = 14 ∷ 13 ∷ 12 ∷ 11 ∷ 10 ∷ 9 ∷ 8 ∷ 7 ∷ 6 ∷ 5 ∷ 4 ∷ 3 ∷ 2 ∷ 1 ∷ 0 ∷ []
 
-other-digits : Passed digits (λ k. not (isPairOr (formOf k .group) false))
-unfolding formOf
-other-digits = tt
+no-other : Passed digits (λ k. leb 16 k || eqb k 15)
+no-other = tt
 
-pub no-pair : (k : ℕ) → k < 256 → Rest digits k → formOf k .group ≡ TwoAddress → ⊥
-no-pair k h n g = rw g at (by-rest digits (λ k. not (isPairOr (formOf k .group) false)) other-digits k h n)
+second : (a b : Bool) → a ≡ false → T (a || b) → T b
+second false b e t = t
+second true b e t = absurd (true≢false e)
+
+pub last-digit : (k : ℕ) → k < 16 → Rest digits k → k ≡ 15
+last-digit k h n = eqb→eq k 15 (second (leb 16 k) (eqb k 15) (lt-leb _ _ h) (by-rest digits (λ k. leb 16 k || eqb k 15) no-other k (omega arith) n))
+
+-- a form of another group than the two addresses' names nothing here
+pub no-pair : (c : Core) (s : List ℕ) (a o : ℕ) (f : Form) (g : Group) → T (unlisted o) → f ≡ formOf (o / 16) → f .group ≡ g → isPairOr g false ≡ false
+    → Unnamed ≡ fetchedOf c (decodeOpcode s a o)
+no-pair c s a o f g t e h n = unnamed c s a o t (λ q. let k : g ≡ TwoAddress = sym h ∙ (rw e q) in absurd (false≢true (rw k at (sym n))))
 
 -- the opcodes that the decoder names one by one, the last first: every other is a two-address one or names nothing
 abbrev pub listed : List ℕ

@@ -46,6 +46,11 @@ wholly s a n d = cond (ltb (length s - a) n) PastStorage d
 abbrev pub allowing : Operation → List ℕ → ℕ → Fetched → Fetched
 allowing op s a d = cond (allowed op (getD s (a + 1) 0)) d QNotAllowed
 
+-- whether the operation that is named, if any, allows the Q byte
+abbrev pub allowsNamed : Named → ℕ → Bool
+allowsNamed Unknown q = true
+allowsNamed (Known op) q = allowed op q
+
 -- the address of an operand whose bytes begin at k
 abbrev pub addressAt : Core → List ℕ → ℕ → Base → ℕ → ℕ
 addressAt c s next b k = addressOf (machineOf c) b next (numberAt b (λ i. getD s i 0) k)

@@ -4,12 +4,12 @@ ghost use Prim.Native.Nat.{_+_, _*_, _<_, _≤_};
 ghost use lib.Dec.{T};
 ghost use lib.ListN.{length, getD};
 ghost use Rattle.manual.specs.Formats.{formOf, widthOf, allowed, isIndexOrWork, isSumRegister, isRegister, twoAddress};
-ghost use Rattle.manual.specs.declared.Named.the-variants.{Unknown};
+ghost use Rattle.manual.specs.declared.Named.the-variants.{Known, Unknown};
 ghost use Rattle.manual.specs.Decode.{decodeOpcode, decodeOf};
 ghost use Rattle.manual.specs.Step.{based};
 ghost use Rattle.manual.proofs.Fetched.{Sound};
 ghost use Rattle.parts.specs.Inside.{Within};
-ghost use Rattle.decode.specs.Fetching.{fetchedOf, addressAt, singleOf, thirdOf, doubleOf, unlisted};
+ghost use Rattle.decode.specs.Fetching.{fetchedOf, addressAt, allowsNamed, singleOf, thirdOf, doubleOf, unlisted};
 use manual::Base;
 use manual::Fields;
 use manual::Form;
@@ -132,6 +132,31 @@ fn form_of(left: usize) -> Form
     ensures { λ r. ⌜ (r ≡ formOf left) × Sound r ⌝ }
 {
     FORMS[left]
+}
+
+// At any left digit: still read at a literal index, so that the compiler keeps a table of constants.
+fn form_at(left: u8) -> Form
+    requires { ⌜ left < 16 ⌝ }
+    ensures { λ r. ⌜ (r ≡ formOf left) × Sound r ⌝ }
+{
+    match left {
+        0 => form_of(0),
+        1 => form_of(1),
+        2 => form_of(2),
+        3 => form_of(3),
+        4 => form_of(4),
+        5 => form_of(5),
+        6 => form_of(6),
+        7 => form_of(7),
+        8 => form_of(8),
+        9 => form_of(9),
+        10 => form_of(10),
+        11 => form_of(11),
+        12 => form_of(12),
+        13 => form_of(13),
+        14 => form_of(14),
+        _ => form_of(15),
+    }
 }
 
 // A direct address: two bytes, high first.
@@ -294,9 +319,19 @@ fn third(op: Operation, base: Base, c: Core, s: &[u8], at: usize) -> Fetched
     )
 }
 
-// Two addresses.
-fn double(op: Operation, form: Form, c: Core, s: &[u8], at: usize) -> Fetched
-    requires { ⌜ Sound form × Within c × (at < length (now s)) ⌝ }
+// Of the operations of two addresses MVX alone refuses some Q bytes. The right digit is asked and not the operation, so that the loop keeps no call here.
+fn pair_allows(right: u8, q: u8) -> bool
+    ensures { λ r. ⌜ r ≡ allowsNamed (getD twoAddress right Unknown) q ⌝ }
+{
+    if right == 8 {
+        return q < 4;
+    }
+    true
+}
+
+// Two addresses; the operation is the one that the right digit names.
+fn double(right: u8, op: Operation, form: Form, c: Core, s: &[u8], at: usize) -> Fetched
+    requires { ⌜ (getD twoAddress right Unknown ≡ Known op) × Sound form × Within c × (at < length (now s)) ⌝ }
     ensures { λ x. ⌜ x ≡ doubleOf op form c (now (s .entry)) at ⌝ }
 {
     let length = form.length as usize;
@@ -304,7 +339,7 @@ fn double(op: Operation, form: Form, c: Core, s: &[u8], at: usize) -> Fetched
         return Fetched::PastStorage;
     }
     let q = s[at + 1];
-    if !allowed(op, q) {
+    if !pair_allows(right, q) {
         return Fetched::QNotAllowed;
     }
     let first = form.first;
@@ -352,17 +387,13 @@ fn pair(opcode: u8, c: Core, s: &[u8], at: usize) -> Fetched
     let Named::Known(op) = named else {
         return Fetched::Unnamed;
     };
-    match opcode / 16 {
-        0 => double(op, form_of(0), c, s, at),
-        1 => double(op, form_of(1), c, s, at),
-        2 => double(op, form_of(2), c, s, at),
-        4 => double(op, form_of(4), c, s, at),
-        5 => double(op, form_of(5), c, s, at),
-        6 => double(op, form_of(6), c, s, at),
-        8 => double(op, form_of(8), c, s, at),
-        9 => double(op, form_of(9), c, s, at),
-        10 => double(op, form_of(10), c, s, at),
-        _ => Fetched::Unnamed,
+    let form = form_at(opcode / 16);
+    let group = form.group;
+    match group {
+        Group::TwoAddress => double(opcode % 16, op, form, c, s, at),
+        Group::OneAddress => Fetched::Unnamed,
+        Group::Branch => Fetched::Unnamed,
+        Group::Jump => Fetched::Unnamed,
     }
 }
 

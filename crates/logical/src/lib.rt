@@ -44,15 +44,17 @@ pub fn mvc(c: Core, s: &mut [u8], f: Fields) -> Went
 
 // ---- CLC
 
-// Whether two fields are the same: a pass without an early way out, which the compiler takes many bytes at a time.
+// Whether two fields are the same: a pass from the left without an early way out, which the compiler takes many bytes at a time.
 fn same(s: &[u8], a: usize, b: usize, n: usize) -> bool
     requires { ⌜ ((a < length (now s)) × (n ≤ a + 1)) × ((b < length (now s)) × (n ≤ b + 1)) ⌝ }
     ensures { λ r. ⌜ (r ≡ true) ↔ (bytesOf (now (s .entry)) n a ≡ bytesOf (now (s .entry)) n b) ⌝ }
 {
+    let one = a + 1 - n;
+    let two = b + 1 - n;
     let mut alike = true;
     let mut i = 0;
     while i < n {
-        if s[a - i] != s[b - i] {
+        if s[one + i] != s[two + i] {
             alike = false;
         }
         i += 1;
