@@ -95,7 +95,7 @@ module _ (v : ℕ) (σ : State) where
 
 -- ---- Bool
 
-pub less-false : (x y : Bool) → (x && not y) ≡ false → y ≡ false → x ≡ false
+less-false : (x y : Bool) → (x && not y) ≡ false → y ≡ false → x ≡ false
 less-false x true e q = absurd (true≢false q)
 less-false true false e q = e
 less-false false false e q = refl
@@ -121,7 +121,7 @@ less-twice false y w = refl
 -- ---- agreement
 
 -- states that agree outside z agree outside any larger set
-pub weaken : (z z′ : Place → Bool) (σ τ : State) → ((x : Place) → z′ x ≡ false → z x ≡ false) → Agree z σ τ → Agree z′ σ τ
+weaken : (z z′ : Place → Bool) (σ τ : State) → ((x : Place) → z′ x ≡ false → z x ≡ false) → Agree z σ τ → Agree z′ σ τ
 weaken z z′ σ τ f a = record { size = a .size; works = a .works; rest = λ x e. a .rest x (f x e) }
 
 abbrev unseal : Place → (Place → Bool) → Place → Bool

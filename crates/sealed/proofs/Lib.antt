@@ -1,5 +1,7 @@
 pub mod Depends
-pub mod Stepping
-pub mod Running
+pub mod SealedStep
+pub mod SealedRun
 pub mod TwoRuns
 pub mod Mornings
+pub mod Tested
+pub mod SealedCases

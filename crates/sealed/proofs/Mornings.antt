@@ -1,5 +1,5 @@
 -- A program that reads only what the host or the run has written gives the same morning. What carries it: demand 3, with every other byte sealed.
-use mathlib.Core.Path.{_≡_, refl, ap, sym, _∙_}
+use mathlib.Core.Path.{_≡_, refl, ap, _∙_}
 use mathlib.Core.Bool.{Bool, true, false, not, _&&_, _||_}
 use mathlib.Core.List.{List}
 use Prim.Native.Nat.{ℕ, zero, suc}
@@ -9,9 +9,9 @@ use Rattle.manual.specs.declared.Machine.{Machine}
 use Rattle.manual.specs.declared.Ran.{Ran}
 use Rattle.manual.specs.Places.{mem}
 use Rattle.manual.specs.Reads.{elem}
-use Rattle.manual.specs.Run.{RanOutcome, ranOutcome, runOf, RanAs}
+use Rattle.manual.specs.Run.{ranOutcome, runOf, RanAs}
 use Rattle.sealed.specs.Sealed.{writesAt, sealedAfter}
-use Rattle.sealed.specs.Demand3.{sealing, Differ, sealedByte, NoLeak}
+use Rattle.sealed.specs.Demand3.{sealedByte, NoLeak}
 use Rattle.sealed.specs.Written.{writtenAfter, written, ReadsOnlyWritten, SameMorning}
 use Rattle.sealed.proofs.TwoRuns.{demand-3}
 

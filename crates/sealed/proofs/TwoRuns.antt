@@ -2,7 +2,7 @@
 use mathlib.Core.Path.{_≡_, refl, ap, sym, _∙_, subst}
 use mathlib.Core.Bool.{Bool, true, false, cond}
 use mathlib.Core.List.{List}
-use Prim.Native.Nat.{ℕ, zero, suc, _<_}
+use Prim.Native.Nat.{ℕ, zero, suc}
 use native.Mathlib.Omega.{arith}
 use lib.ListN.{length}
 use lib.Seq.{ext-getD}
@@ -14,13 +14,13 @@ use Rattle.manual.specs.declared.Answer.the-variants.{Refused}
 use Rattle.manual.specs.declared.Stepped.{Stepped}
 use Rattle.manual.specs.declared.Ran.{Ran}
 use Rattle.manual.specs.TheMachine.{sizeAllowed, budgetAllowed, statusAllowed}
-use Rattle.manual.specs.Places.{Place, mem, reg, State, state, look}
-use Rattle.manual.specs.Step.{Outcome, outcome, ended, innerStep, stepOf, SteppedAs}
+use Rattle.manual.specs.Places.{Place, mem, reg, state, look}
+use Rattle.manual.specs.Step.{outcome, ended, innerStep, stepOf, SteppedAs}
 use Rattle.manual.specs.Reads.{elem, readsOf}
 use Rattle.manual.specs.Run.{RanOutcome, ranOutcome, ran, counted, more, turnsOf, runOf, RanAs}
-use Rattle.sealed.specs.Sealed.{Takes, readsAt, sealedAfter, ReadsNoSealed, Agree, stateOf, Apart}
-use Rattle.sealed.specs.Demand3.{sealing, Differ, sealedByte, stillSealedByte, ReadsNoSealedByte, NoLeak, Demand3}
-use Rattle.sealed.proofs.Running.{runs-apart}
+use Rattle.sealed.specs.Sealed.{sealedAfter, ReadsNoSealed, Agree, SealHolds}
+use Rattle.sealed.specs.Demand3.{sealing, DifferIn, ReadsNoSealedByte, NoLeak, Demand3}
+use Rattle.sealed.proofs.SealedRun.{seal-holds}
 
 -- ---- no register is sealed
 
@@ -33,7 +33,7 @@ reads-no-place : (z : ℕ → Bool) (m : Machine) (s : List ℕ) (b : ℕ) → R
 reads-no-place z m s b q k h (mem a) e = q k h a e
 reads-no-place z m s b q k h (reg r) e = never z m s k r
 
-agree-bytes : (z : ℕ → Bool) (m : Machine) (s t : List ℕ) → Differ z s t → Agree (sealing z) (state m s) (state m t)
+agree-bytes : (z : ℕ → Bool) (m : Machine) (s t : List ℕ) → DifferIn z s t → Agree (sealing z) (state m s) (state m t)
 agree-bytes z m s t d = record { size = d .size; works = refl; rest = on }
   where
     on : (x : Place) → sealing z x ≡ false → look x (state m s) ≡ look x (state m t)
@@ -46,7 +46,7 @@ same-machine m n a b c d e f = λ i. record { iar = a i; arr = b i; xr1 = c i; x
 
 -- a law over places, where no register is sealed, read for bytes
 of-bytes : (still : Place → Bool) (m n : Machine) (s t : List ℕ) (u v : RanOutcome)
-    → ((r : Register) → still (reg r) ≡ false) → Apart still (state m s) (state n t) u v → NoLeak (λ a. still (mem a)) s t u v
+    → ((r : Register) → still (reg r) ≡ false) → SealHolds still (state m s) (state n t) u v → NoLeak (λ a. still (mem a)) s t u v
 of-bytes still m n s t u v o h =
     let c = h .same .agree .rest in
     record {
@@ -64,7 +64,7 @@ of-bytes still m n s t u v o h =
 
 pub demand-3 : (m : Machine) (s t : List ℕ) (b : ℕ) → Demand3 m s t b (runOf m s b) (runOf m t b)
 demand-3 m s t b z d q =
-    of-bytes _ m m s t _ _ (never z m s (runOf m s b .gave .ended .steps)) (runs-apart (sealing z) m m s t b refl refl (agree-bytes z m s t d) (reads-no-place z m s b q))
+    of-bytes _ m m s t _ _ (never z m s (runOf m s b .gave .ended .steps)) (seal-holds (sealing z) m m s t b refl refl (agree-bytes z m s t d) (reads-no-place z m s b q))
 
 -- of any two results that the statement of `run` allows
 pub run-demand-3 : (m : Machine) (s t : List ℕ) (b : ℕ) (r r′ : Ran) (s′ t′ : List ℕ)

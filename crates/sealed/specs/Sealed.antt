@@ -20,7 +20,7 @@ readsAt m s k = readsOf (turnsOf m s k .gave .machine) (turnsOf m s k .storage)
 abbrev pub writesAt : Machine → List ℕ → ℕ → List Place
 writesAt m s k = writesOf (turnsOf m s k .gave .machine) (turnsOf m s k .storage)
 
--- a run of m over s with budget b takes a step after k executed ones, be it one that stops
+-- a run of m over s with budget b takes a step after k executed ones, be it one that stops: it isn't refused, has budget left and hasn't stopped
 pub record Takes (m : Machine) (s : List ℕ) (b k : ℕ) : Type 0 where
   pub entered : Entered m s b
   pub unspent : k < b
@@ -64,7 +64,7 @@ pub record Same (z : Place → Bool) (u v : RanOutcome) : Type 0 where
   pub agree : Agree z (stateOf u) (stateOf v)
 
 -- what a run from σ and one from τ gave; each place still sealed keeps its own starting value
-pub record Apart (still : Place → Bool) (σ τ : State) (u v : RanOutcome) : Type 0 where
+pub record SealHolds (still : Place → Bool) (σ τ : State) (u v : RanOutcome) : Type 0 where
   pub same : Same still u v
   pub first-keeps : (x : Place) → still x ≡ true → look x (stateOf u) ≡ look x σ
   pub second-keeps : (x : Place) → still x ≡ true → look x (stateOf v) ≡ look x τ

@@ -5,7 +5,10 @@ use Rattle.sealed.proofs.run_twice.Tie as tie
 use Rattle.sealed.proofs.TwoRuns.{run-demand-3}
 
 returns : tie.Need-returns
-returns c = run-demand-3 _ _ _ _ _ _ _ _ (c .before .before .before .before .before .before .run .ensures) (c .before .before .run2 .ensures)
+returns c =
+    let e = c .before .before .before .before .before .before .run .ensures in
+    let f = c .before .before .run2 .ensures in
+    record { first = e; second = f; no-leak = run-demand-3 _ _ _ _ _ _ _ _ e f }
 
 pub run-twice-spec : {M : Type 1} → statement M
 run-twice-spec = tie.close (tie.spec (λ c κs. search needs) (λ c κs. search needs) (λ c. search needs) (λ c. search needs) returns)

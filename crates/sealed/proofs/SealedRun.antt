@@ -14,16 +14,16 @@ use Rattle.manual.specs.declared.Refusal.the-variants.{SizeRefused, BudgetRefus
 use Rattle.manual.specs.declared.Ended.{Ended}
 use Rattle.manual.specs.Numbers.{numberOf}
 use Rattle.manual.specs.TheMachine.{sizeAllowed, budgetAllowed, statusAllowed}
-use Rattle.manual.specs.Places.{Place, State, state, look}
+use Rattle.manual.specs.Places.{Place, state, look}
 use Rattle.manual.specs.When.{Entered}
-use Rattle.manual.specs.Step.{Outcome, innerStep}
+use Rattle.manual.specs.Step.{innerStep}
 use Rattle.manual.specs.Reads.{elem, writesOf}
-use Rattle.manual.specs.Run.{RanOutcome, ran, countAfter, counted, moreOf, more, turnsOf, runOf}
+use Rattle.manual.specs.Run.{RanOutcome, ran, countAfter, moreOf, more, turnsOf, runOf}
 use Rattle.manual.proofs.Runs.{not-refused, not-stopped, more-stays, more-steps, steps-within}
 use Rattle.manual.proofs.Keeps.{turns-as-counted}
-use Rattle.sealed.specs.Sealed.{readsAt, writesAt, Takes, without, sealedAfter, stillSealed, ReadsNoSealed, Agree, stateOf, Same, Apart}
+use Rattle.sealed.specs.Sealed.{readsAt, writesAt, sealedAfter, stillSealed, ReadsNoSealed, Agree, stateOf, Same, SealHolds}
 use Rattle.sealed.proofs.Depends.{less-true}
-use Rattle.sealed.proofs.Stepping.{opens, step-keeps, step-writes, step-same}
+use Rattle.sealed.proofs.SealedStep.{opens, step-keeps, step-writes, step-same}
 
 abbrev answerOf : RanOutcome → Answer
 answerOf u = u .gave .ended .answer
@@ -107,8 +107,8 @@ module _ (z : Place → Bool) (m n : Machine) (s t : List ℕ) where
     sofar zero l = record { same = h; seals = refl }
     sofar (suc k) l = sofar-by k l (sofar k (omega arith)) (answerOf (turnsOf m s k)) refl
 
-    turns-apart : Apart (sealedAfter z m s (stepsOf (turnsOf m s b))) (state m s) (state n t) (turnsOf m s b) (turnsOf n t b)
-    turns-apart =
+    turns-hold : SealHolds (sealedAfter z m s (stepsOf (turnsOf m s b))) (state m s) (state n t) (turnsOf m s b) (turnsOf n t b)
+    turns-hold =
         let i : Sofar (turnsOf m s b) (turnsOf n t b) = sofar b (omega arith) in
         let c : stepsOf (turnsOf m s b) ≡ stepsOf (turnsOf n t b) = ap (λ (o : Ended). o .steps) (i .same .ended) in
         record {
@@ -125,7 +125,7 @@ module _ (z : Place → Bool) (m n : Machine) (s t : List ℕ) (b : ℕ) (ei : m
 
   -- what is said of the outcome u of the first run and v of the second
   abbrev Said : RanOutcome → RanOutcome → Type 0
-  Said u v = Apart (sealedAfter z m s (stepsOf u)) (state m s) (state n t) u v
+  Said u v = SealHolds (sealedAfter z m s (stepsOf u)) (state m s) (state n t) u v
 
   -- a refused run takes no step
   refused : (x : Refusal) → Said (ran m (Refused x) 0 s) (ran n (Refused x) 0 t)
@@ -137,12 +137,12 @@ module _ (z : Place → Bool) (m n : Machine) (s t : List ℕ) (b : ℕ) (ei : m
         → Said
         (cond x (cond y (cond w (turnsOf m s b) (ran m (Refused StatusRefused) 0 s)) (ran m (Refused BudgetRefused) 0 s)) (ran m (Refused SizeRefused) 0 s))
         (cond x (cond y (cond w (turnsOf n t b) (ran n (Refused StatusRefused) 0 t)) (ran n (Refused BudgetRefused) 0 t)) (ran n (Refused SizeRefused) 0 t))
-    by-entry true true true e f g = turns-apart z m n s t b start (record { size = e; budget = f; status = g }) q
+    by-entry true true true e f g = turns-hold z m n s t b start (record { size = e; budget = f; status = g }) q
     by-entry true true false e f g = refused StatusRefused
     by-entry true false w e f g = refused BudgetRefused
     by-entry false y w e f g = refused SizeRefused
 
     -- two runs that differ in sealed places alone, where no step of the first reads a place still sealed
-    pub runs-apart : Apart (stillSealed z m s b) (state m s) (state n t) (runOf m s b) (runOf n t b)
+    pub seal-holds : SealHolds (stillSealed z m s b) (state m s) (state n t) (runOf m s b) (runOf n t b)
     unfolding runOf
-    runs-apart = rw (ap sizeAllowed (sym (a .size)), ap statusAllowed (sym es)) (by-entry (sizeAllowed (length s)) (budgetAllowed b) (statusAllowed (m .status)) refl refl refl)
+    seal-holds = rw (ap sizeAllowed (sym (a .size)), ap statusAllowed (sym es)) (by-entry (sizeAllowed (length s)) (budgetAllowed b) (statusAllowed (m .status)) refl refl refl)

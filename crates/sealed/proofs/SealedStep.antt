@@ -3,20 +3,19 @@ use mathlib.Core.Path.{_≡_, refl, ap, sym, _∙_}
 use mathlib.Core.Bool.{Bool, true, false}
 use mathlib.Core.List.{List}
 use Prim.Native.Nat.{ℕ}
-use lib.ListN.{length}
 use Rattle.manual.specs.declared.Machine.{Machine}
 use Rattle.manual.specs.declared.Register.the-variants.{Arr, Xr1, Xr2, Work}
 use Rattle.manual.specs.declared.Answer.{Answer}
 use Rattle.manual.specs.declared.Answer.the-variants.{Executed, Refused, Stopped}
 use Rattle.manual.specs.Places.{Place, mem, reg, State, state, look}
-use Rattle.manual.specs.Programs.{Prog, val, fin, wrote, Out, stop, go, Given}
-use Rattle.manual.specs.Step.{Outcome, moved, settle, given, did, step, innerStep}
+use Rattle.manual.specs.Programs.{val, fin, wrote, Out, stop, go, Given}
+use Rattle.manual.specs.Step.{moved, settle, given, did, step, innerStep}
 use Rattle.manual.specs.Reads.{elem, readsOf, writesOf}
 use Rattle.manual.specs.Run.{counted}
 use Rattle.manual.proofs.Exact.{reads-exact}
 use Rattle.manual.proofs.Wrote.{writes-exact}
-use Rattle.sealed.specs.Sealed.{without, Agree, stateOf, Same}
-use Rattle.sealed.proofs.Depends.{weaken, Alike, alike, kept}
+use Rattle.sealed.specs.Sealed.{without, Agree, Same}
+use Rattle.sealed.proofs.Depends.{Alike, alike, kept}
 
 -- a step that doesn't stop opens what it writes
 abbrev pub opens : Answer → (Place → Bool) → List Place → Place → Bool
