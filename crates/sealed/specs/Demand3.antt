@@ -5,9 +5,9 @@ use mathlib.Core.List.{List}
 use Prim.Native.Nat.{ℕ}
 use lib.ListN.{length, getD}
 use Rattle.manual.specs.declared.Machine.{Machine}
+use Rattle.manual.specs.declared.Ran.{Ran}
 use Rattle.manual.specs.Places.{Place, mem, reg}
 use Rattle.manual.specs.Reads.{elem}
-use Rattle.manual.specs.declared.Ran.{Ran}
 use Rattle.manual.specs.Run.{RanOutcome, ranOutcome, RanAs}
 use Rattle.sealed.specs.Sealed.{Takes, readsAt, sealedAfter, stillSealed}
 
