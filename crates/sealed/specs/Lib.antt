@@ -1,0 +1,3 @@
+pub mod Sealed
+pub mod Demand3
+pub mod Written
