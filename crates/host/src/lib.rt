@@ -60,21 +60,21 @@ pub struct ToldLength {
 fn step_numbers(a: Answer) -> StepNumbers
     ensures { λ r. ⌜ r ≡ stepNumbers a ⌝ }
 {
-    StepNumbers {
-        number: told::number_of(a),
-        q: told::q_of(a),
-        r: told::r_of(a),
-    }
+    let number = told::number_of(a);
+    let q = told::q_of(a);
+    let r = told::r_of(a);
+    StepNumbers { number, q, r }
 }
 
 fn run_numbers(e: Ended) -> RunNumbers
     ensures { λ r. ⌜ r ≡ runNumbers e ⌝ }
 {
     let a = e.answer;
+    let n = step_numbers(a);
     RunNumbers {
-        number: told::number_of(a),
-        q: told::q_of(a),
-        r: told::r_of(a),
+        number: n.number,
+        q: n.q,
+        r: n.r,
         steps: e.steps,
     }
 }
@@ -82,20 +82,19 @@ fn run_numbers(e: Ended) -> RunNumbers
 fn write_numbers(a: WriteAnswer) -> WriteNumbers
     ensures { λ r. ⌜ r ≡ writeNumbers a ⌝ }
 {
-    WriteNumbers {
-        number: told::write_number(a),
-        length: told::write_length(a),
-    }
+    let number = told::write_number(a);
+    let length = told::write_length(a);
+    WriteNumbers { number, length }
 }
 
 fn told_step(m: Machine, storage: &mut [u8]) -> ToldStep
     ensures { λ r. ⌜ ToldStepAs m (now (storage .entry)) r (now (storage .exit)) ⌝ }
 {
-    let t = processor::step(m, storage);
-    let n = t.machine;
-    let a = t.answer;
+    let stepped = processor::step(m, storage);
+    let after = stepped.machine;
+    let a = stepped.answer;
     ToldStep {
-        machine: n,
+        machine: after,
         numbers: step_numbers(a),
     }
 }
@@ -103,11 +102,11 @@ fn told_step(m: Machine, storage: &mut [u8]) -> ToldStep
 fn told_run(m: Machine, storage: &mut [u8], budget: u32) -> ToldRun
     ensures { λ r. ⌜ ToldRunAs m (now (storage .entry)) budget r (now (storage .exit)) ⌝ }
 {
-    let t = processor::run(m, storage, budget);
-    let n = t.machine;
-    let e = t.ended;
+    let ran = processor::run(m, storage, budget);
+    let last = ran.machine;
+    let e = ran.ended;
     ToldRun {
-        machine: n,
+        machine: last,
         numbers: run_numbers(e),
     }
 }
@@ -116,12 +115,13 @@ fn told_run(m: Machine, storage: &mut [u8], budget: u32) -> ToldRun
 fn told_read(m: Machine, deck: &[u8], storage: &mut [u8]) -> ToldRead
     ensures { λ r. ⌜ ToldReadAs m (now (deck .entry)) (now (storage .entry)) r (now (storage .exit)) ⌝ }
 {
-    let t = deck::read(deck, storage);
-    let n = t.machine;
-    let a = t.answer;
+    let taken = deck::read(deck, storage);
+    let found = taken.machine;
+    let a = taken.answer;
+    let n = told::read_number(a);
     ToldRead {
-        machine: n,
-        number: told::read_number(a),
+        machine: found,
+        number: n,
     }
 }
 
@@ -138,9 +138,10 @@ fn told_write(m: Machine, storage: &[u8], out: &mut [u8]) -> ToldWrite
 fn told_length(m: Machine, storage: &[u8]) -> ToldLength
     ensures { λ r. ⌜ ToldLengthAs m (now (storage .entry)) r ⌝ }
 {
+    let n = deck::length(m, storage);
     ToldLength {
         machine: m,
-        length: deck::length(m, storage),
+        length: n,
     }
 }
 
