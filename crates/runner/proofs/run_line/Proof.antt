@@ -3,7 +3,7 @@ use Prim.Native.Nat.{_+_, _≤_}
 use mathlib.Core.Path.{_≡_, ap, _∙_}
 use borrow.Author.Needs.{needs}
 use Rattle.manual.specs.Runner.{runLine}
-use Rattle.runner.proofs.Told.{told-of}
+use Rattle.told.proofs.Telling.{told-of}
 use Rattle.runner.proofs.Lines.{run-text, run-length}
 use Rattle.runner.proofs.run_line.Statement.{statement}
 use Rattle.runner.proofs.run_line.Tie as tie
