@@ -56,7 +56,7 @@ int main(int argc, char **argv) {
 
     /* the size that a deck is for stands in its second byte; the reader refuses every other */
     size_t size = deck_length < 2 ? AQTOVMESH_PAGE : (deck[1] + 1u) * AQTOVMESH_PAGE;
-    aqtovmesh_machine m;
+    aqtovmesh_machine m = {0};
     uint8_t refused = aqtovmesh_read(&m, deck, deck_length, storage, size);
     if (refused) return fail("deck refused", refused);
 

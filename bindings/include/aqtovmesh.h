@@ -2,12 +2,13 @@
  * Aqtovmesh: System/36 object code, executed over a main storage that the host lends.
  *
  * The host keeps one machine record and lends it with the storage; each call alters that record itself and comes back with a number of the table below.
- * Every call ends with a defined answer, for all storage contents, registers, sizes, budgets and decks: nothing has to be checked before. A number from
- * 1 to 9 changes no register and no byte beyond what earlier steps of the same run did, and IAR stays at the stopped instruction.
+ * Every call ends with a defined answer, for all storage contents, registers, sizes, budgets and decks: nothing has to be checked before. What each number
+ * leaves untouched stands at its call.
  *
  * What C demands of the caller, and no call can check:
  *   - every pointer is non-null, also where the length beside it is 0, and valid for that length;
- *   - a record is aligned to 2 bytes and writable, also for aqtovmesh_write and aqtovmesh_deck_length, which store the value that it had;
+ *   - a record is aligned to 2 bytes, holds values (zeros will do) and is writable, also for aqtovmesh_write and aqtovmesh_deck_length, which store
+ *     what it held;
  *   - the record and the buffers of one call do not overlap, and nothing else reads or writes them meanwhile.
  * There is no other state: calls on different records and buffers may run at once.
  *
@@ -95,12 +96,12 @@ typedef struct {
 
 /* ---- the calls */
 
-/* One step: 0, 1 or 3 to 9. With any number but 0 record and storage stay as they were. */
+/* One step: 0, 1 or 3 to 9. With any number but 0 record and storage stay as they were, IAR at the stopped instruction. */
 aqtovmesh_stepped aqtovmesh_step(aqtovmesh_machine *m, uint8_t *storage, size_t size);
 
 /*
- * At most budget steps: 0 to 9, 0 where the budget is spent. 1, 2 and 3 leave record and storage as they were; 4 to 9 leave them as the executed steps
- * did. A budget of 0 returns 0 and 0 steps. After 9 the host does what the call asks, sets m->iar past it and runs on.
+ * At most budget steps: 0 to 9, 0 where the budget is spent. 1, 2 and 3 leave record and storage as they were; 4 to 9 leave them as the executed
+ * steps did, IAR at the stopped instruction. A budget of 0 returns 0 and 0 steps. After 9 the host does what the call asks, sets m->iar past it and runs on.
  */
 aqtovmesh_ended aqtovmesh_run(aqtovmesh_machine *m, uint8_t *storage, size_t size, uint32_t budget);
 

@@ -1,5 +1,5 @@
-/* Each field of the record and of what comes back is where the header says, by the compiled library: a program that loads every register and stops at
-   a call, a program that changes none, and a machine written as a deck whose bytes are known. */
+/* Each field of the record and of what comes back is where the header says, by the compiled library: a record whose fields all differ, a program that
+   loads every register and stops at a call, and the machine that is left, written as a deck whose bytes are known. */
 #include "aqtovmesh.h"
 #include <stdio.h>
 #include <string.h>
