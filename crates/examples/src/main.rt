@@ -1,16 +1,11 @@
 // Runs the worked examples of document 001 and the table of the morning check through `step`, and prints each with what it gave.
 // A line of standard input: page and instruction in ten places; IAR, ARR, XR1, XR2, WR4 to WR7; the status; then stretches of storage, each an
 // address, a colon and its bytes. It is printed with what the step gave: the answer's number, the registers, the status, the same stretches.
-ghost use mathlib.Core.Path.{_≡_};
 ghost use Prim.Native.Nat.{_<_, _≤_};
 ghost use lib.ListN.{length};
-ghost use Rattle.manual.specs.Numbers.{numberOf, refusalTold, stopTold};
 use libc::STDIN_FILENO;
 use libc::STDOUT_FILENO;
-use manual::Answer;
 use manual::Machine;
-use manual::Refusal;
-use manual::Stop;
 
 // ---- reading
 
@@ -120,41 +115,6 @@ fn print_machine(m: Machine) {
     print_byte(m.status);
 }
 
-// ---- the number of an answer
-
-fn refusal_number(x: Refusal) -> u8
-    ensures { λ r. ⌜ r ≡ refusalTold x 0 .number ⌝ }
-{
-    match x {
-        Refusal::SizeRefused => 1,
-        Refusal::BudgetRefused => 2,
-        Refusal::StatusRefused => 3,
-    }
-}
-
-fn stop_number(x: Stop) -> u8
-    ensures { λ r. ⌜ r ≡ stopTold x 0 .number ⌝ }
-{
-    match x {
-        Stop::CutShort => 4,
-        Stop::OpcodeUnknown => 5,
-        Stop::QRefused => 6,
-        Stop::OperandOutside => 7,
-        Stop::DigitRefused => 8,
-        Stop::Supervisor(_, _) => 9,
-    }
-}
-
-fn number_of(a: Answer) -> u8
-    ensures { λ r. ⌜ r ≡ numberOf a ⌝ }
-{
-    match a {
-        Answer::Executed => 0,
-        Answer::Refused(x) => refusal_number(x),
-        Answer::Stopped(x) => stop_number(x),
-    }
-}
-
 // ---- the stretches of a line
 
 // A stretch begins here: its colon is four places on.
@@ -221,7 +181,7 @@ fn example(line: &[u8])
     let answer = t.answer;
     print(line);
     print(b" -> ");
-    io::print_decimal(STDOUT_FILENO, number_of(answer) as u64);
+    io::print_decimal(STDOUT_FILENO, told::number_of(answer) as u64);
     print_machine(t.machine);
     print_stretches(line, &s);
     print(b"\n");

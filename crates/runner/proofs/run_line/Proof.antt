@@ -5,8 +5,8 @@ use borrow.Author.Needs.{needs}
 use lib.ListN.{length}
 use Rattle.manual.specs.Numbers.{told}
 use Rattle.manual.specs.Runner.{runLine}
+use Rattle.told.proofs.Telling.{told-of}
 use Rattle.runner.specs.Text.{text, Behind}
-use Rattle.runner.proofs.Told.{told-of}
 use Rattle.runner.proofs.Lines.{run-text, run-length, as-printed}
 use Rattle.runner.proofs.run_line.Statement.{statement}
 use Rattle.runner.proofs.run_line.Tie as tie

@@ -1,9 +1,9 @@
--- `runner::answers::r_of`: a refusal has no R byte.
+-- `told::r_of`: a refusal has no R byte.
 use mathlib.Core.Path.{sym}
 use borrow.Author.Needs.{needs}
-use Rattle.runner.proofs.Told.{refused-r}
-use Rattle.runner.proofs.answers.r_of.Statement.{statement}
-use Rattle.runner.proofs.answers.r_of.Tie as tie
+use Rattle.told.proofs.Telling.{refused-r}
+use Rattle.told.proofs.r_of.Statement.{statement}
+use Rattle.told.proofs.r_of.Tie as tie
 
 returns-2 : tie.Need-returns-2
 returns-2 c = rw (c .enum-told2 .given .1) (sym (refused-r (c .enum-told2 .given .0 .0)))

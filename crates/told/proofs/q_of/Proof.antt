@@ -1,9 +1,9 @@
--- `runner::answers::q_of`: a refusal has no Q byte.
+-- `told::q_of`: a refusal has no Q byte.
 use mathlib.Core.Path.{sym}
 use borrow.Author.Needs.{needs}
-use Rattle.runner.proofs.Told.{refused-q}
-use Rattle.runner.proofs.answers.q_of.Statement.{statement}
-use Rattle.runner.proofs.answers.q_of.Tie as tie
+use Rattle.told.proofs.Telling.{refused-q}
+use Rattle.told.proofs.q_of.Statement.{statement}
+use Rattle.told.proofs.q_of.Tie as tie
 
 returns-2 : tie.Need-returns-2
 returns-2 c = rw (c .enum-told2 .given .1) (sym (refused-q (c .enum-told2 .given .0 .0)))
