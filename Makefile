@@ -1,11 +1,14 @@
 DECK ?= examples/example.deck
 
-.PHONY: help run lib hosts test fmt
+.PHONY: help run lib hosts check fuzz bench test fmt
 
 help:
 	@echo "make run [DECK=path]   run a deck (default: document 01's example) and print its line"
 	@echo "make lib               the static library for C and Rust: target/lib/libaqtovmesh.a, with aqtovmesh.h beside it"
 	@echo "make hosts             build and run the example hosts in C and Rust, and the tests of the bindings"
+	@echo "make check             the compiled library against the independent model: a fixed seed, demand 3, deliberate faults"
+	@echo "make fuzz [SEED=n]     the same with one seed after another, until a difference or Ctrl-C"
+	@echo "make bench             the library's speed beside Rust interpreters, guest by guest"
 	@echo "make test              the gate: everything proved from nothing, must-fail edits refused, programs run (.ci/run)"
 	@echo "make fmt               format the sources"
 
@@ -25,6 +28,20 @@ lib:
 
 hosts: lib
 	@bindings/check.sh
+
+check: lib
+	@check/check.sh
+
+# each round takes some seconds; a difference stops it with the machine, the bytes and the seed
+SEED ?= 1
+fuzz: lib
+	@CARGO_TARGET_DIR=target/check cargo build --quiet --release --offline --locked --manifest-path check/Cargo.toml
+	@seed=$(SEED); while target/check/release/differ $$seed 1000000 > target/check/fuzz.log && target/check/release/sealed $$seed 300000 >> target/check/fuzz.log; do \
+		echo "seed $$seed: no difference, no leak"; seed=$$((seed + 1)); done; cat target/check/fuzz.log; exit 1
+
+bench: lib
+	@CARGO_TARGET_DIR=target/check cargo build --quiet --release --offline --locked --manifest-path check/Cargo.toml
+	@target/check/release/bench
 
 test:
 	.ci/run

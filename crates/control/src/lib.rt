@@ -3,7 +3,8 @@ ghost use mathlib.Core.Path.{_≡_};
 ghost use Prim.Native.Nat.{_+_, _-_, _*_, _%_, _/_, _<_, _≤_};
 ghost use lib.ListN.{length, getD, set};
 ghost use Rattle.manual.specs.Registers.{store, load, loadedStatus, add, subtract};
-ghost use Rattle.manual.specs.Branches.{taken, afterTest, branch, jump, loadAddress, call};
+ghost use Rattle.manual.specs.TheMachine.{testFalse, decimalOverflow};
+ghost use Rattle.manual.specs.Branches.{taken, offIfPicked, afterTest, branch, jump, loadAddress, call};
 ghost use Rattle.parts.specs.Inside.{LeafDoes, Within};
 use manual::Columns;
 use manual::Fields;
@@ -152,29 +153,60 @@ fn after_test(q: u8, status: usize) -> usize
     status & (255 - off)
 }
 
+// One of the two bits, as the rule says it: off if it is picked and on.
+fn decimal_overflow_off(q: u8, status: usize) -> usize
+    ensures { λ r. ⌜ r ≡ offIfPicked decimalOverflow q status ⌝ }
+{
+    if q / 8 % 2 == 1 {
+        if status / 8 % 2 == 1 {
+            return status - 8;
+        }
+        return status;
+    }
+    status
+}
+
+fn test_false_off(q: u8, status: usize) -> usize
+    ensures { λ r. ⌜ r ≡ offIfPicked testFalse q status ⌝ }
+{
+    if q / 16 % 2 == 1 {
+        if status / 16 % 2 == 1 {
+            return status - 16;
+        }
+        return status;
+    }
+    status
+}
+
+// The status on a taken way, bit by bit and not by the mask: reckoned alike on both ways, the compiler would choose IAR by the status without a branch,
+// and the next fetch would wait for the status.
+fn after_taken(q: u8, status: usize) -> usize
+    ensures { λ r. ⌜ r ≡ afterTest q status ⌝ }
+{
+    test_false_off(q, decimal_overflow_off(q, status))
+}
+
 pub fn branch(c: Core, s: &[u8], f: Fields) -> Went
     requires { ⌜ Within c ⌝ }
     ensures { λ r. ⌜ LeafDoes c (now (s .entry)) f (branch f) r (now (s .entry)) ⌝ }
 {
-    let status = after_test(f.q, c.status);
     let mut t = c;
     if is_taken(f.q, c.status) {
         t.arr = f.next;
-        return parts::gone(t, f.a1, status);
+        return parts::gone(t, f.a1, after_taken(f.q, c.status));
     }
     t.arr = f.a1;
-    parts::gone(t, f.next, status)
+    parts::gone(t, f.next, after_test(f.q, c.status))
 }
 
 pub fn jump(c: Core, s: &[u8], f: Fields) -> Went
     requires { ⌜ Within c ⌝ }
     ensures { λ r. ⌜ LeafDoes c (now (s .entry)) f (jump f) r (now (s .entry)) ⌝ }
 {
-    let status = after_test(f.q, c.status);
     if is_taken(f.q, c.status) {
-        return parts::gone(c, f.a1, status);
+        return parts::gone(c, f.a1, after_taken(f.q, c.status));
     }
-    parts::gone(c, f.next, status)
+    parts::gone(c, f.next, after_test(f.q, c.status))
 }
 
 pub fn call(c: Core, s: &[u8], f: Fields) -> Went
