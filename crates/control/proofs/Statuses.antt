@@ -1,7 +1,9 @@
 -- The status after L, BC and JC as the code reckons it. What carries it: arithmetic, and one computed test of every status under every pick.
 use mathlib.Core.Path.{_≡_, sym, _∙_, subst}
 use mathlib.Core.Bool.{Bool, true, false, _&&_}
-use Prim.Native.Nat.{ℕ, zero, suc, _+_, _-_, _*_, _/_, _%_, _<_}
+use Prim.Native.Nat.{ℕ, zero, suc, _+_, _-_, _*_, _/_, _%_, _<_, _≤_}
+use native.Mathlib.Decide.{decLt}
+use native.Mathlib.Nat.{div-eq-of-lt}
 use native.Mathlib.Omega.{arith}
 use lib.Bits.{bitAnd}
 use lib.Dec.{T, eqb, eqb→eq}
@@ -30,6 +32,14 @@ only-picked q status =
 pub after : (q status : ℕ) → status < 64 → bitAnd status (255 - q / 8 % 4 * 8) ≡ afterTest q status
 after q status h =
     eqb→eq _ _ (all-at (agrees (q / 8 % 4)) 64 (all-at (λ k. allBelow (agrees k) 64) 4 computed (q / 8 % 4) (omega arith)) status h) ∙ sym (only-picked q status)
+
+-- a bit that is on is at most the number that has it
+pub on-below : (x b : ℕ) → x / b % 2 ≡ 1 → b ≤ x
+on-below x b e = go (decLt x b)
+  where
+    go : Dec (x < b) → b ≤ x
+    go (yes h) = let z : x / b ≡ 0 = div-eq-of-lt h in absurd (omega arith)
+    go (no h) = omega arith
 
 -- ---- L of the status
 

@@ -3,7 +3,6 @@ ghost use mathlib.Core.Path.{_≡_};
 ghost use Prim.Native.Nat.{_+_, _-_, _*_, _%_, _/_, _<_, _≤_};
 ghost use lib.ListN.{length, getD, set};
 ghost use Rattle.manual.specs.Registers.{store, load, loadedStatus, add, subtract};
-ghost use Rattle.manual.specs.TheMachine.{testFalse, decimalOverflow};
 ghost use Rattle.manual.specs.Branches.{taken, offIfPicked, afterTest, branch, jump, loadAddress, call};
 ghost use Rattle.parts.specs.Inside.{LeafDoes, Within};
 use manual::Columns;
@@ -153,25 +152,14 @@ fn after_test(q: u8, status: usize) -> usize
     status & (255 - off)
 }
 
-// One of the two bits, as the rule says it: off if it is picked and on.
-fn decimal_overflow_off(q: u8, status: usize) -> usize
-    ensures { λ r. ⌜ r ≡ offIfPicked decimalOverflow q status ⌝ }
+// One bit, as the rule says it: off if it is picked and on.
+fn off_if_picked(bit: usize, q: u8, status: usize) -> usize
+    requires { ⌜ 0 < bit ⌝ }
+    ensures { λ r. ⌜ r ≡ offIfPicked bit q status ⌝ }
 {
-    if q / 8 % 2 == 1 {
-        if status / 8 % 2 == 1 {
-            return status - 8;
-        }
-        return status;
-    }
-    status
-}
-
-fn test_false_off(q: u8, status: usize) -> usize
-    ensures { λ r. ⌜ r ≡ offIfPicked testFalse q status ⌝ }
-{
-    if q / 16 % 2 == 1 {
-        if status / 16 % 2 == 1 {
-            return status - 16;
+    if parts::wide(q) / bit % 2 == 1 {
+        if status / bit % 2 == 1 {
+            return status - bit;
         }
         return status;
     }
@@ -183,7 +171,7 @@ fn test_false_off(q: u8, status: usize) -> usize
 fn after_taken(q: u8, status: usize) -> usize
     ensures { λ r. ⌜ r ≡ afterTest q status ⌝ }
 {
-    test_false_off(q, decimal_overflow_off(q, status))
+    off_if_picked(16, q, off_if_picked(8, q, status))
 }
 
 pub fn branch(c: Core, s: &[u8], f: Fields) -> Went

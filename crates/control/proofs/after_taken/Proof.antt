@@ -6,7 +6,7 @@ use Rattle.control.proofs.after_taken.Tie as tie
 
 returns : tie.Need-returns
 unfolding afterTest
-returns c = rw (c .test-false-off .ensures, c .before .decimal-overflow-off .ensures)
+returns c = rw (c .off-if-picked2 .ensures, c .before .off-if-picked .ensures)
 
 pub after-taken-spec : {M : Type 1} → statement M
 after-taken-spec = tie.close (tie.spec (λ c κs. search needs) (λ c κs. search needs) returns)
