@@ -1,5 +1,4 @@
 // The deck runner's line, PUBLISHED: no `requires`, and one statement that determines every byte of the line.
-mod answers;
 mod text;
 
 ghost use mathlib.Core.Path.{_≡_};
@@ -32,12 +31,12 @@ fn run_line(m: Machine, e: Ended) -> Printed
     ensures { λ r. ⌜ (r ≡ printed (runLine m (told e))) × (r .length ≤ length (r .bytes)) ⌝ }
 {
     let a = e.answer;
-    let number = text::with_digit(text::nothing(), answers::number_of(a));
+    let number = text::with_digit(text::nothing(), told::number_of(a));
     let registers = text::with_registers(number, m);
     let status = text::with_field(registers, m.status);
     let steps = text::with_decimal(text::with_byte(status, 32), e.steps, 8);
-    let q = text::with_field(steps, answers::q_of(a));
-    let r = text::with_field(q, answers::r_of(a));
+    let q = text::with_field(steps, told::q_of(a));
+    let r = text::with_field(q, told::r_of(a));
     text::with_byte(r, 10)
 }
 
@@ -70,7 +69,7 @@ fn answered(deck: &[u8], s: &mut [u8]) -> Printed
     let read = deck::read(deck, s);
     let answer = read.answer;
     match answer {
-        ReadAnswer::DeckRefused(fault) => number_line(answers::fault_number(fault)),
+        ReadAnswer::DeckRefused(fault) => number_line(told::fault_number(fault)),
         ReadAnswer::DeckRead => {
             let m = read.machine;
             let t = processor::run(m, s, 1000000);
