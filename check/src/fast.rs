@@ -1,11 +1,22 @@
-//! The yardstick of the benchmark: a straightforward interpreter made to be fast. Each step is
+//! The yardsticks of the benchmark: a straightforward interpreter made to be fast. Each step is
 //! decoded and matched, one arm an opcode; registers are locals; an operand's range is tested
-//! once; nothing is allocated and nothing is unsafe. Logical and zoned sums go eight bytes at a
-//! time, which was faster than by bytes.
+//! once; nothing is allocated and nothing is unsafe. It comes in two kinds, which differ in AZ,
+//! SZ, ALC and SLC alone: `BYTES`, the straightforward one, goes digit by digit and byte by byte
+//! in plain loops; `WORDS` goes eight bytes at a time in 64-bit words.
 
 use crate::model::{Ended, Machine, BUDGET_LIMIT};
 use crate::model::{BINARY_OVERFLOW, DECIMAL_OVERFLOW, EQUAL, HIGH, LOW, TEST_FALSE};
+use std::cell::Cell;
 use std::cmp::Ordering;
+
+/// How AZ, SZ, ALC and SLC go: the parameter of `run`.
+pub const BYTES: bool = false;
+pub const WORDS: bool = true;
+
+pub type Run = fn(&mut Machine, &mut [u8], u32) -> Ended;
+
+/// Both, by name.
+pub const YARDSTICKS: [(&str, Run); 2] = [("bytes", run::<BYTES>), ("words", run::<WORDS>)];
 
 const ORDER: u8 = HIGH | LOW | EQUAL;
 
@@ -55,7 +66,7 @@ fn first_of(address: u16, length: usize, size: usize) -> Result<usize, u8> {
     Ok(end - length)
 }
 
-pub fn run(m: &mut Machine, storage: &mut [u8], budget: u32) -> Ended {
+pub fn run<const SUMS: bool>(m: &mut Machine, storage: &mut [u8], budget: u32) -> Ended {
     let size = storage.len();
     let refused = |number| Ended { number, q: 0, r: 0, steps: 0 };
     if !(256..=65_536).contains(&size) || size % 256 != 0 {
@@ -82,7 +93,7 @@ pub fn run(m: &mut Machine, storage: &mut [u8], budget: u32) -> Ended {
             };
         }
         macro_rules! two {
-            ($text:ident, $f:ident, $left:tt) => {{
+            ($text:ident, $f:path, $left:tt) => {{
                 let (q, address1, address2, length) = two!(@ $left, $text);
                 match $f(storage, status, q, address1, address2) {
                     Ok(new) => status = new,
@@ -315,35 +326,35 @@ pub fn run(m: &mut Machine, storage: &mut [u8], budget: u32) -> Ended {
             let t = &storage[iar as usize..];
             match opcode {
                 0x04 => two!(t, zaz, 0),
-                0x06 => two!(t, az, 0),
-                0x07 => two!(t, sz, 0),
+                0x06 => two!(t, az::<SUMS>, 0),
+                0x07 => two!(t, sz::<SUMS>, 0),
                 0x08 => two!(t, mvx, 0),
                 0x0A => two!(t, ed, 0),
                 0x0B => itc!(t, 0),
                 0x0C => two!(t, mvc, 0),
                 0x0D => two!(t, clc, 0),
-                0x0E => two!(t, alc, 0),
-                0x0F => two!(t, slc, 0),
+                0x0E => two!(t, alc::<SUMS>, 0),
+                0x0F => two!(t, slc::<SUMS>, 0),
                 0x14 => two!(t, zaz, 1),
-                0x16 => two!(t, az, 1),
-                0x17 => two!(t, sz, 1),
+                0x16 => two!(t, az::<SUMS>, 1),
+                0x17 => two!(t, sz::<SUMS>, 1),
                 0x18 => two!(t, mvx, 1),
                 0x1A => two!(t, ed, 1),
                 0x1B => itc!(t, 1),
                 0x1C => two!(t, mvc, 1),
                 0x1D => two!(t, clc, 1),
-                0x1E => two!(t, alc, 1),
-                0x1F => two!(t, slc, 1),
+                0x1E => two!(t, alc::<SUMS>, 1),
+                0x1F => two!(t, slc::<SUMS>, 1),
                 0x24 => two!(t, zaz, 2),
-                0x26 => two!(t, az, 2),
-                0x27 => two!(t, sz, 2),
+                0x26 => two!(t, az::<SUMS>, 2),
+                0x27 => two!(t, sz::<SUMS>, 2),
                 0x28 => two!(t, mvx, 2),
                 0x2A => two!(t, ed, 2),
                 0x2B => itc!(t, 2),
                 0x2C => two!(t, mvc, 2),
                 0x2D => two!(t, clc, 2),
-                0x2E => two!(t, alc, 2),
-                0x2F => two!(t, slc, 2),
+                0x2E => two!(t, alc::<SUMS>, 2),
+                0x2F => two!(t, slc::<SUMS>, 2),
                 0x34 => st!(direct, t),
                 0x35 => l!(direct, t),
                 0x36 => a!(direct, t),
@@ -356,35 +367,35 @@ pub fn run(m: &mut Machine, storage: &mut [u8], budget: u32) -> Ended {
                 0x3D => cli!(direct, t),
                 0x3F => sli!(direct, t),
                 0x44 => two!(t, zaz, 4),
-                0x46 => two!(t, az, 4),
-                0x47 => two!(t, sz, 4),
+                0x46 => two!(t, az::<SUMS>, 4),
+                0x47 => two!(t, sz::<SUMS>, 4),
                 0x48 => two!(t, mvx, 4),
                 0x4A => two!(t, ed, 4),
                 0x4B => itc!(t, 4),
                 0x4C => two!(t, mvc, 4),
                 0x4D => two!(t, clc, 4),
-                0x4E => two!(t, alc, 4),
-                0x4F => two!(t, slc, 4),
+                0x4E => two!(t, alc::<SUMS>, 4),
+                0x4F => two!(t, slc::<SUMS>, 4),
                 0x54 => two!(t, zaz, 5),
-                0x56 => two!(t, az, 5),
-                0x57 => two!(t, sz, 5),
+                0x56 => two!(t, az::<SUMS>, 5),
+                0x57 => two!(t, sz::<SUMS>, 5),
                 0x58 => two!(t, mvx, 5),
                 0x5A => two!(t, ed, 5),
                 0x5B => itc!(t, 5),
                 0x5C => two!(t, mvc, 5),
                 0x5D => two!(t, clc, 5),
-                0x5E => two!(t, alc, 5),
-                0x5F => two!(t, slc, 5),
+                0x5E => two!(t, alc::<SUMS>, 5),
+                0x5F => two!(t, slc::<SUMS>, 5),
                 0x64 => two!(t, zaz, 6),
-                0x66 => two!(t, az, 6),
-                0x67 => two!(t, sz, 6),
+                0x66 => two!(t, az::<SUMS>, 6),
+                0x67 => two!(t, sz::<SUMS>, 6),
                 0x68 => two!(t, mvx, 6),
                 0x6A => two!(t, ed, 6),
                 0x6B => itc!(t, 6),
                 0x6C => two!(t, mvc, 6),
                 0x6D => two!(t, clc, 6),
-                0x6E => two!(t, alc, 6),
-                0x6F => two!(t, slc, 6),
+                0x6E => two!(t, alc::<SUMS>, 6),
+                0x6F => two!(t, slc::<SUMS>, 6),
                 0x74 => st!(xr1, t),
                 0x75 => l!(xr1, t),
                 0x76 => a!(xr1, t),
@@ -397,35 +408,35 @@ pub fn run(m: &mut Machine, storage: &mut [u8], budget: u32) -> Ended {
                 0x7D => cli!(xr1, t),
                 0x7F => sli!(xr1, t),
                 0x84 => two!(t, zaz, 8),
-                0x86 => two!(t, az, 8),
-                0x87 => two!(t, sz, 8),
+                0x86 => two!(t, az::<SUMS>, 8),
+                0x87 => two!(t, sz::<SUMS>, 8),
                 0x88 => two!(t, mvx, 8),
                 0x8A => two!(t, ed, 8),
                 0x8B => itc!(t, 8),
                 0x8C => two!(t, mvc, 8),
                 0x8D => two!(t, clc, 8),
-                0x8E => two!(t, alc, 8),
-                0x8F => two!(t, slc, 8),
+                0x8E => two!(t, alc::<SUMS>, 8),
+                0x8F => two!(t, slc::<SUMS>, 8),
                 0x94 => two!(t, zaz, 9),
-                0x96 => two!(t, az, 9),
-                0x97 => two!(t, sz, 9),
+                0x96 => two!(t, az::<SUMS>, 9),
+                0x97 => two!(t, sz::<SUMS>, 9),
                 0x98 => two!(t, mvx, 9),
                 0x9A => two!(t, ed, 9),
                 0x9B => itc!(t, 9),
                 0x9C => two!(t, mvc, 9),
                 0x9D => two!(t, clc, 9),
-                0x9E => two!(t, alc, 9),
-                0x9F => two!(t, slc, 9),
+                0x9E => two!(t, alc::<SUMS>, 9),
+                0x9F => two!(t, slc::<SUMS>, 9),
                 0xA4 => two!(t, zaz, A),
-                0xA6 => two!(t, az, A),
-                0xA7 => two!(t, sz, A),
+                0xA6 => two!(t, az::<SUMS>, A),
+                0xA7 => two!(t, sz::<SUMS>, A),
                 0xA8 => two!(t, mvx, A),
                 0xAA => two!(t, ed, A),
                 0xAB => itc!(t, A),
                 0xAC => two!(t, mvc, A),
                 0xAD => two!(t, clc, A),
-                0xAE => two!(t, alc, A),
-                0xAF => two!(t, slc, A),
+                0xAE => two!(t, alc::<SUMS>, A),
+                0xAF => two!(t, slc::<SUMS>, A),
                 0xB4 => st!(xr2, t),
                 0xB5 => l!(xr2, t),
                 0xB6 => a!(xr2, t),
@@ -526,12 +537,128 @@ fn zaz(storage: &mut [u8], status: u8, q: u8, address1: u16, address2: u16) -> O
     Ok(zoned_status(status, zero, minus))
 }
 
-fn az(storage: &mut [u8], status: u8, q: u8, address1: u16, address2: u16) -> Outcome {
-    zoned_sum(storage, status, q, address1, address2, false)
+fn az<const SUMS: bool>(storage: &mut [u8], status: u8, q: u8, address1: u16, address2: u16) -> Outcome {
+    zoned_sum::<SUMS, false>(storage, status, q, address1, address2)
 }
 
-fn sz(storage: &mut [u8], status: u8, q: u8, address1: u16, address2: u16) -> Outcome {
-    zoned_sum(storage, status, q, address1, address2, true)
+fn sz<const SUMS: bool>(storage: &mut [u8], status: u8, q: u8, address1: u16, address2: u16) -> Outcome {
+    zoned_sum::<SUMS, true>(storage, status, q, address1, address2)
+}
+
+#[inline(always)]
+fn zoned_sum<const SUMS: bool, const SUBTRACT: bool>(
+    storage: &mut [u8],
+    status: u8,
+    q: u8,
+    address1: u16,
+    address2: u16,
+) -> Outcome {
+    let l2 = (q & 0x0F) as usize + 1;
+    let l1 = (q >> 4) as usize + l2;
+    let first1 = first_of(address1, l1, storage.len())?;
+    let first2 = first_of(address2, l2, storage.len())?;
+    if SUMS == WORDS {
+        zoned_by_words::<SUBTRACT>(storage, status, first1, l1, first2, l2)
+    } else {
+        zoned_by_digits::<SUBTRACT>(storage, status, first1, l1, first2, l2)
+    }
+}
+
+/// Digit by digit from the right, straight from storage; the result waits in an array until every
+/// digit is seen, for the operands may overlap and a stop writes nothing.
+#[inline(always)]
+fn zoned_by_digits<const SUBTRACT: bool>(
+    storage: &mut [u8],
+    status: u8,
+    first1: usize,
+    l1: usize,
+    first2: usize,
+    l2: usize,
+) -> Outcome {
+    let field1 = &storage[first1..first1 + l1];
+    let field2 = &storage[first2..first2 + l2];
+    let minus1 = field1[l1 - 1] >> 4 == 0xD;
+    let minus2 = (field2[l2 - 1] >> 4 == 0xD) != SUBTRACT;
+    let mut held = [0; DIGITS];
+    let result = &mut held[DIGITS - l1..];
+    let mut minus = minus1;
+    let mut status = status;
+    let any;
+    if minus1 == minus2 {
+        let add = |a: u32, b: u32, carry: u32| {
+            let sum = a + b + carry;
+            if sum > 9 {
+                (sum - 10, 1)
+            } else {
+                (sum, 0)
+            }
+        };
+        let carry;
+        (any, carry) = each_digit(field1, field2, result, add)?;
+        if carry != 0 {
+            status |= DECIMAL_OVERFLOW;
+        }
+    } else {
+        let subtract = |a: u32, b: u32, borrow: u32| {
+            let difference = a.wrapping_sub(b + borrow);
+            let borrow = difference >> 31;
+            (if borrow != 0 { difference.wrapping_add(10) } else { difference }, borrow)
+        };
+        let borrow;
+        (any, borrow) = each_digit(field1, field2, result, subtract)?;
+        if borrow != 0 {
+            // operand 2 is the larger, and these are the digits of 10 to the L1 less the size
+            minus = minus2;
+            let mut borrow = 0;
+            for byte in result.iter_mut().rev() {
+                let (digit, under) = subtract(0, (*byte & 0x0F) as u32, borrow);
+                *byte = 0xF0 | digit as u8;
+                borrow = under;
+            }
+        }
+    }
+    let zero = any == 0;
+    if minus && !zero {
+        result[l1 - 1] &= 0xDF;
+    }
+    storage[first1..first1 + l1].copy_from_slice(result);
+    Ok(zoned_status(status, zero, minus))
+}
+
+/// Puts what `combine` makes of each pair of digits with the carry. Gives all digits or'ed, and
+/// the last carry; or 8 for a digit above 9.
+#[inline(always)]
+fn each_digit(
+    field1: &[u8],
+    field2: &[u8],
+    result: &mut [u8],
+    combine: impl Fn(u32, u32, u32) -> (u32, u32),
+) -> Result<(u32, u32), u8> {
+    let more = field1.len() - field2.len();
+    let (left1, right1) = field1.split_at(more);
+    let (left, right) = result.split_at_mut(more);
+    let (mut over, mut any, mut carry) = (0, 0, 0);
+    for ((byte1, byte2), byte) in right1.iter().zip(field2).zip(right).rev() {
+        let (a, b) = ((byte1 & 0x0F) as u32, (byte2 & 0x0F) as u32);
+        // a digit above 9 and 6 pass into the zone
+        over |= (a + 6) | (b + 6);
+        let digit;
+        (digit, carry) = combine(a, b, carry);
+        any |= digit;
+        *byte = 0xF0 | digit as u8;
+    }
+    for (byte1, byte) in left1.iter().zip(left).rev() {
+        let a = (byte1 & 0x0F) as u32;
+        over |= a + 6;
+        let digit;
+        (digit, carry) = combine(a, 0, carry);
+        any |= digit;
+        *byte = 0xF0 | digit as u8;
+    }
+    if over & 0x10 != 0 {
+        return Err(8);
+    }
+    Ok((any, carry))
 }
 
 /// The digits of a zoned field as four words of eight bytes, the rightmost word first; and
@@ -565,14 +692,17 @@ fn corrected(word: u64) -> u64 {
 }
 
 #[inline(always)]
-fn zoned_sum(storage: &mut [u8], status: u8, q: u8, address1: u16, address2: u16, subtract: bool) -> Outcome {
-    let l2 = (q & 0x0F) as usize + 1;
-    let l1 = (q >> 4) as usize + l2;
-    let first1 = first_of(address1, l1, storage.len())?;
-    let first2 = first_of(address2, l2, storage.len())?;
+fn zoned_by_words<const SUBTRACT: bool>(
+    storage: &mut [u8],
+    status: u8,
+    first1: usize,
+    l1: usize,
+    first2: usize,
+    l2: usize,
+) -> Outcome {
     let (words1, minus1) = words(&storage[first1..first1 + l1])?;
     let (words2, minus2) = words(&storage[first2..first2 + l2])?;
-    let minus2 = minus2 != subtract;
+    let minus2 = minus2 != SUBTRACT;
     let mut minus = minus1;
     let mut result = [0; 4];
     let mut carry = false;
@@ -706,10 +836,10 @@ fn clc(storage: &mut [u8], status: u8, q: u8, address1: u16, address2: u16) -> O
 }
 
 /// Takes both operands from the right and puts what `wide` or `narrow` makes of each pair with
-/// the carry: eight bytes at a time where the operands are apart, else byte by byte. Gives
-/// whether all was zero, and the carry.
+/// the carry: byte by byte, or eight bytes at a time where the operands are apart. Gives whether
+/// all was zero, and the carry.
 #[inline(always)]
-fn carried(
+fn carried<const SUMS: bool>(
     storage: &mut [u8],
     q: u8,
     address1: u16,
@@ -720,59 +850,59 @@ fn carried(
     let length = q as usize + 1;
     let first1 = first_of(address1, length, storage.len())?;
     let first2 = first_of(address2, length, storage.len())?;
-    let (mut any8, mut any, mut carry) = (0, 0, false);
-    let both = [first1..first1 + length, first2..first2 + length];
-    if let Ok([field1, field2]) = storage.get_disjoint_mut(both) {
-        let (rest1, eights1) = field1.as_rchunks_mut::<8>();
-        let (rest2, eights2) = field2.as_rchunks::<8>();
-        for (eight1, eight2) in eights1.iter_mut().zip(eights2).rev() {
-            let (result, over) = wide(u64::from_be_bytes(*eight1), u64::from_be_bytes(*eight2), carry);
-            *eight1 = result.to_be_bytes();
-            any8 |= result;
-            carry = over;
+    let (mut any, mut carry) = (0, false);
+    if SUMS == WORDS {
+        let both = [first1..first1 + length, first2..first2 + length];
+        if let Ok([field1, field2]) = storage.get_disjoint_mut(both) {
+            let mut any8 = 0;
+            let (rest1, eights1) = field1.as_rchunks_mut::<8>();
+            let (rest2, eights2) = field2.as_rchunks::<8>();
+            for (eight1, eight2) in eights1.iter_mut().zip(eights2).rev() {
+                let (result, over) = wide(u64::from_be_bytes(*eight1), u64::from_be_bytes(*eight2), carry);
+                *eight1 = result.to_be_bytes();
+                any8 |= result;
+                carry = over;
+            }
+            for (byte1, byte2) in rest1.iter_mut().zip(rest2).rev() {
+                let (result, over) = narrow(*byte1, *byte2, carry);
+                *byte1 = result;
+                any |= result;
+                carry = over;
+            }
+            return Ok((any8 == 0 && any == 0, carry));
         }
-        for (byte1, byte2) in rest1.iter_mut().zip(rest2).rev() {
-            let (result, over) = narrow(*byte1, *byte2, carry);
-            *byte1 = result;
-            any |= result;
-            carry = over;
-        }
-        return Ok((any8 == 0 && any == 0, carry));
     }
-    for i in (0..length).rev() {
-        let (result, over) = narrow(storage[first1 + i], storage[first2 + i], carry);
-        storage[first1 + i] = result;
+    // cells, for the operands may overlap
+    let cells = Cell::from_mut(storage).as_slice_of_cells();
+    let (field1, field2) = (&cells[first1..first1 + length], &cells[first2..first2 + length]);
+    for (byte1, byte2) in field1.iter().zip(field2).rev() {
+        let (result, over) = narrow(byte1.get(), byte2.get(), carry);
+        byte1.set(result);
         any |= result;
         carry = over;
     }
     Ok((any == 0, carry))
 }
 
-fn alc(storage: &mut [u8], status: u8, q: u8, address1: u16, address2: u16) -> Outcome {
+fn alc<const SUMS: bool>(storage: &mut [u8], status: u8, q: u8, address1: u16, address2: u16) -> Outcome {
     let wide = |a: u64, b: u64, carry: bool| {
         let (sum, over) = a.overflowing_add(b);
         let (sum, again) = sum.overflowing_add(carry as u64);
         (sum, over | again)
     };
-    let narrow = |a: u8, b: u8, carry: bool| {
-        let sum = a as u16 + b as u16 + carry as u16;
-        (sum as u8, sum > 0xFF)
-    };
-    let (zero, carry) = carried(storage, q, address1, address2, wide, narrow)?;
+    let narrow = |a: u8, b: u8, carry: bool| a.carrying_add(b, carry);
+    let (zero, carry) = carried::<SUMS>(storage, q, address1, address2, wide, narrow)?;
     Ok(set_sum(status, zero, carry))
 }
 
-fn slc(storage: &mut [u8], status: u8, q: u8, address1: u16, address2: u16) -> Outcome {
+fn slc<const SUMS: bool>(storage: &mut [u8], status: u8, q: u8, address1: u16, address2: u16) -> Outcome {
     let wide = |a: u64, b: u64, borrow: bool| {
         let (difference, under) = a.overflowing_sub(b);
         let (difference, again) = difference.overflowing_sub(borrow as u64);
         (difference, under | again)
     };
-    let narrow = |a: u8, b: u8, borrow: bool| {
-        let difference = (a as u16).wrapping_sub(b as u16).wrapping_sub(borrow as u16);
-        (difference as u8, difference > 0xFF)
-    };
-    let (zero, borrow) = carried(storage, q, address1, address2, wide, narrow)?;
+    let narrow = |a: u8, b: u8, borrow: bool| a.borrowing_sub(b, borrow);
+    let (zero, borrow) = carried::<SUMS>(storage, q, address1, address2, wide, narrow)?;
     let order = if zero {
         Ordering::Equal
     } else if borrow {

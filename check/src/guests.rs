@@ -64,10 +64,11 @@ impl Assembler {
     }
 }
 
-/// "if equal", "if not equal", "if low", "always"
+/// "if equal", "if not equal", "if low", "if not low", "always"
 const IF_EQUAL: u8 = 0x81;
 const IF_NOT_EQUAL: u8 = 0x01;
 const IF_LOW: u8 = 0x82;
+const IF_NOT_LOW: u8 = 0x02;
 const ALWAYS: u8 = 0x00;
 
 const FULL: u32 = 16_777_216;
@@ -170,9 +171,11 @@ fn issue_program() -> Guest {
     a.bytes(&[0xC2, 0x44, 0x00, 0x08]); // LA WR4, 8
     let top = a.here();
     a.bytes(&[0x8D, 0x01, 0x01, 0x12, 0x61]); // CLC month with the asked one
-    a.jump_over(IF_LOW, 44); // an older month: on to the next record
+    a.jump_over(IF_LOW, 52); // an older month: on to the next record
     a.bytes(&[0x2C, 0x09, 0x12, 0x09, 0x0B]); // MVC name to the line
     a.bytes(&[0xA7, 0x24, 0x12, 0x17]); // SZ balance less issue
+    a.jump_over(IF_NOT_LOW, 5);
+    a.bytes(&[0x86, 0x06, 0x12, 0x12, 0x76]); // AZ balance and a receipt, if it is minus
     a.bytes(&[0x26, 0x76, 0x12, 0x4D, 0x12]); // AZ total and balance
     a.two(0x0C, 0x0A, 0x121A, 0x123A); // MVC pattern to the line
     a.bytes(&[0x2A, 0x0A, 0x12, 0x1A, 0x12]); // ED balance
@@ -182,7 +185,7 @@ fn issue_program() -> Guest {
     a.bytes(&[0x3A, 0x01, 0x12, 0x63]); // SBN a mark
     a.bytes(&[0x7D, 0x40, 0x00]); // CLI a byte
     let skipped = a.here();
-    assert_eq!(skipped, top + 5 + 3 + 44);
+    assert_eq!(skipped, top + 5 + 3 + 52);
     a.bytes(&[0xE2, 0x02, 0x20]); // LA XR2, the next record
     a.one(0x37, 0x44, 0x1265); // S WR4, 1
     a.jump_back(IF_NOT_EQUAL, top);
@@ -196,12 +199,13 @@ fn issue_program() -> Guest {
         records.extend((0..10).map(|k| 0xC1 + (i + k) % 9));
         records.extend(zoned(7, i, false));
         records.extend(zoned(5, i + 1, i == 5));
-        records.push(if i == 2 { 0x80 } else { 0 });
+        records.push(if i == 3 { 0x80 } else { 0 });
         records.extend([0x40; 7]);
     }
     let pattern = [0x20, 0x6B, 0x20, 0x20, 0x20, 0x6B, 0x20, 0x20, 0x20, 0x40, 0x40];
     let asked = [0xF0, 0xF9, 0x40, 0x00, 0x00, 0x01];
     let count = [0, 0, 0, 0, 0, 0, 0, 1];
+    let receipt = zoned(7, 8, false);
     let data: &[(usize, &[u8])] = &[
         (RECORDS, &records),
         (0x1230, &pattern),
@@ -209,6 +213,7 @@ fn issue_program() -> Guest {
         (0x1250, &[0xF0]),
         (0x1260, &asked),
         (0x1268, &count),
+        (0x1270, &receipt),
         (0x1000, &[0x40]),
     ];
     a.guest("issue", FULL, data)

@@ -31,6 +31,7 @@ pub enum Kind {
     WriteEntry,
     RoundTrip,
     FastStep,
+    FastSums,
     FastRun,
 }
 
@@ -55,6 +56,7 @@ const SCHEDULE: &[(Kind, usize)] = &[
     (Kind::WriteEntry, 3),
     (Kind::RoundTrip, 5),
     (Kind::FastStep, 30),
+    (Kind::FastSums, 30),
     (Kind::FastRun, 20),
 ];
 
@@ -79,8 +81,9 @@ pub const KINDS: &[(Kind, &str)] = &[
     (Kind::Write, "write, room exact, short and more"),
     (Kind::WriteEntry, "write, sizes and status not allowed"),
     (Kind::RoundTrip, "write and read again"),
-    (Kind::FastStep, "the yardstick against the model, one step"),
-    (Kind::FastRun, "the yardstick against the model, runs"),
+    (Kind::FastStep, "both yardsticks against the model, one step"),
+    (Kind::FastSums, "both yardsticks against the model, AZ SZ ALC SLC"),
+    (Kind::FastRun, "both yardsticks against the model, runs"),
 ];
 
 /// Bytes kept on both sides of what is lent, to see that they stay.
@@ -423,6 +426,7 @@ impl Harness {
             Kind::WriteEntry => self.write_entry(),
             Kind::RoundTrip => self.round_trip(),
             Kind::FastStep => self.fast_step(),
+            Kind::FastSums => self.fast_sums(),
             Kind::FastRun => self.fast_run(),
         }
     }
@@ -460,12 +464,16 @@ impl Harness {
         self.compare_step(&case)
     }
 
-    fn step_among(&mut self, rights: &[u8]) -> Result<(), String> {
+    fn case_among(&mut self, rights: &[u8]) -> Case {
         let left = self.rng.pick(&[0, 1, 2, 4, 5, 6, 8, 9, 0xA]);
         let opcode = left * 16 + self.rng.pick(rights);
         let q = gen::q_for(&mut self.rng, opcode);
         let size = gen::size(&mut self.rng);
-        let case = gen::aimed(&mut self.rng, opcode, q, size);
+        gen::aimed(&mut self.rng, opcode, q, size)
+    }
+
+    fn step_among(&mut self, rights: &[u8]) -> Result<(), String> {
+        let case = self.case_among(rights);
         self.compare_step(&case)
     }
 
@@ -659,6 +667,12 @@ impl Harness {
         self.compare_fast(&case)
     }
 
+    /// AZ, SZ, ALC and SLC, in which the yardsticks differ.
+    fn fast_sums(&mut self) -> Result<(), String> {
+        let case = self.case_among(&[6, 7, 0xE, 0xF]);
+        self.compare_fast(&case)
+    }
+
     fn fast_run(&mut self) -> Result<(), String> {
         let mut case = self.program_case(false);
         if self.rng.one_in(16) {
@@ -705,18 +719,22 @@ impl Harness {
         Err(self.report(case, &answers, &got, &wanted))
     }
 
+    /// Both yardsticks against the sound model.
     fn compare_fast(&mut self, case: &Case) -> Result<(), String> {
-        let mut got = case.m;
-        let answer = fast::run(&mut got, self.lent.lend(&case.storage), case.budget);
         self.copy.clear();
         self.copy.extend_from_slice(&case.storage);
         let mut wanted = case.m;
         let expected = Model::sound().run(&mut wanted, &mut self.copy, case.budget);
-        if answer == expected && got == wanted && *self.lent.inside() == self.copy {
-            return Ok(());
+        for (name, run) in fast::YARDSTICKS {
+            let mut got = case.m;
+            let answer = run(&mut got, self.lent.lend(&case.storage), case.budget);
+            let same = answer == expected && got == wanted && *self.lent.inside() == self.copy;
+            if !same || !self.lent.guards_stay() {
+                let answers = format!("yardstick by {name} {answer:?}\nmodel {expected:?}");
+                return Err(self.report(case, &answers, &got, &wanted));
+            }
         }
-        let answers = format!("yardstick {answer:?}\nmodel     {expected:?}");
-        Err(self.report(case, &answers, &got, &wanted))
+        Ok(())
     }
 
     fn compare_read(&mut self, deck: &[u8], size: usize) -> Result<(), String> {

@@ -13,5 +13,7 @@ pub mod harness;
 pub mod lib_under_test;
 pub mod model;
 pub mod seal;
+#[cfg(target_arch = "x86_64")]
+pub mod stack;
 #[cfg(feature = "stub")]
 pub mod stub;

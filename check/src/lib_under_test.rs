@@ -42,7 +42,7 @@ const _: () = assert!(std::mem::size_of::<CWritten>() == 16);
 
 extern "C" {
     fn aqtovmesh_step(m: *mut CMachine, storage: *mut u8, size: usize) -> CStepped;
-    fn aqtovmesh_run(m: *mut CMachine, storage: *mut u8, size: usize, budget: u32) -> CEnded;
+    pub(crate) fn aqtovmesh_run(m: *mut CMachine, storage: *mut u8, size: usize, budget: u32) -> CEnded;
     fn aqtovmesh_read(m: *mut CMachine, deck: *const u8, deck_length: usize, storage: *mut u8, size: usize) -> u8;
     fn aqtovmesh_write(m: *mut CMachine, storage: *const u8, size: usize, out: *mut u8, room: usize) -> CWritten;
     fn aqtovmesh_deck_length(m: *mut CMachine, storage: *const u8, size: usize) -> usize;
