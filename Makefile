@@ -40,8 +40,7 @@ fuzz: lib
 		echo "seed $$seed: no difference, no leak"; seed=$$((seed + 1)); done; cat target/check/fuzz.log; exit 1
 
 bench: lib
-	@CARGO_TARGET_DIR=target/check cargo build --quiet --release --offline --locked --manifest-path check/Cargo.toml
-	@target/check/release/bench
+	@check/bench.sh
 
 test:
 	.ci/run
