@@ -1,3 +1,4 @@
 mod Turns
+mod Fours
 mod TwoFields
 mod Rules

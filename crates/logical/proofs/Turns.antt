@@ -44,7 +44,7 @@ module _ (column : ℕ → ℕ → ℕ → Column) where
   pub columns-start : (n a b : ℕ) (c : Columns) (s : List ℕ) → Leads (columns column n a b c) s (columns column (n - 0) (a - 0) (b - 0) c) s
   columns-start n a b c s v u g = simp sub-zero at g
 
-  columns-one : (n a b : ℕ) (c : Columns) (s : List ℕ)
+  pub columns-one : (n a b : ℕ) (c : Columns) (s : List ℕ)
       → Leads (columns column (suc n) a b c) s (columns column n (a - 1) (b - 1) (columnsAfter column s a b c)) (bytesAfter column s a b c)
   unfolding val fin columns
   columns-one n a b c s v u g = g
@@ -67,3 +67,7 @@ borrowed t x y c h k = go (decLt x (y + c))
     go : Dec (x < y + c) → 1 - t / 256 ≡ cond (ltb x (y + c)) 1 0
     go (yes e) = rw (lt-ltb x (y + c) e) (omega arith)
     go (no e) = let f : y + c ≤ x = omega arith in rw (le-ltb x (y + c) f) (omega arith)
+
+-- what isn't borrowed, twice
+pub unborrowed : (up : ℕ) → up ≤ 1 → 1 - (1 - up) ≡ up
+unborrowed up h = omega arith
