@@ -10,15 +10,15 @@ use lib.Dec.{eqb, leb}
 use lib.IntN.{_+ℤ_, _-ℤ_}
 use lib.ListN.{length, getD, replicate}
 use borrow.Author.Tests.{le-leb, lt-leb, leb-true, leb-false, eq-eqb, ne-eqb}
-use Rattle.manual.specs.declared.Columns.{Columns}
-use Rattle.manual.specs.Values.{bytesOf, zone, size, value, allDigits}
+use Rattle.manual.specs.Values.{bytesOf, digit, zone, size, value, allDigits, cut, leftMinus}
 use Rattle.manual.specs.Zoned.{l1, l2}
-use Rattle.manual.proofs.Digits.{ten-pos}
+use Rattle.manual.proofs.Digits.{ten-pos, digitAt, digit-small}
 use Rattle.manual.proofs.FieldBytes.{written, written-length, written-inside, written-outside, written-once}
-use Rattle.manual.proofs.ZonedRead.{zonedBytes, minus-read, zoned-size, zoned-all}
-use Rattle.zoned.proofs.Summing.{size-below, none-size, none-good, copy-size, copy-good}
+use Rattle.manual.proofs.ZonedRead.{zonedByte, zonedBytes, minus-read, zoned-size, size-read, digits-read, digit-of-size}
+use Rattle.zoned.proofs.Fields.{field-put}
+use Rattle.zoned.proofs.Summing.{size-below, copy-size, copy-good}
 use Rattle.zoned.specs.declared.Take.the-variants.{Plain, Nines}
-use Rattle.zoned.specs.Working.{Ready, Operands, sumOf, columnsOf, signPut, finished, signedSum, Left}
+use Rattle.zoned.specs.Working.{Ready, Field, Operands, sumOf, roundOf, signPut, finished, signedSum, Left}
 use Rattle.zoned.proofs.Signs.{add-alike, add-unlike, add-other, op-signed}
 use Rattle.zoned.proofs.Settling.{settled}
 
@@ -43,6 +43,11 @@ carry-out T P h q = pick (decLe P T)
         let r : T < P = omega arith in
         rw (div-eq-of-lt r, lt-leb P T r)
 
+-- whether the digits that stand in the field are zero
+pub zero-told : (s : List ℕ) (n a T : ℕ) (t : List ℕ) (z : Bool) → a < length s → n ≤ a + 1 → t ≡ zonedBytes s n a false T
+    → z ≡ eqb (size (bytesOf t n a)) 0 → z ≡ eqb (T % 10 ^ n) 0
+zero-told s n a T t z inn fits e f = f ∙ ap (λ (k : ℕ). eqb k 0) (ap (λ (l : List ℕ). size (bytesOf l n a)) e ∙ zoned-size s n a false T inn fits)
+
 module _ (s d : List ℕ) (n a status : ℕ) (g : Bool) (o : Operands s n a d) (some : 0 < n) where
   abbrev P : ℕ
   P = 10 ^ n
@@ -53,83 +58,96 @@ module _ (s d : List ℕ) (n a status : ℕ) (g : Bool) (o : Operands s n a d) (
   abbrev y : ℕ
   y = size (bytesOf d n 30)
 
+  inn : a < length s
+  inn = o .field .inside
+
+  fits : n ≤ a + 1
+  fits = o .field .fits
+
   x-small : x < P
-  x-small = size-below s n a (o .digits-one)
+  x-small = size-below s n a (o .field .digits)
 
   y-small : y < P
   y-small = size-below d n 30 (o .digits-two)
 
   -- of one sign
   abbrev plus : ℕ
-  plus = sumOf Plain Plain 0 n s a d
+  plus = sumOf Plain 0 n s a d
 
   plus-is : plus ≡ x + y
   plus-is = omega (arith, mod-eq-of-lt x-small, mod-eq-of-lt y-small)
 
-  pub sum-left : (c : Columns) (t t₁ : List ℕ) (r : ℕ) → t ≡ zonedBytes s n a false plus → c ≡ columnsOf n plus
-      → r ≡ finished g (eqb (c .over) 1) (c .clear) status → t₁ ≡ signPut g (c .clear) t a → Left s n a status (signedSum g g s n a d) r t₁
-  sum-left c t t₁ r e f h k =
+  pub sum-left : (over : ℕ) (z : Bool) (t t₁ : List ℕ) (r : ℕ) → t ≡ zonedBytes s n a false plus → over ≡ plus / P → z ≡ eqb (size (bytesOf t n a)) 0
+      → r ≡ finished g (eqb over 1) z status → t₁ ≡ signPut g z t a → Left s n a status (signedSum g g s n a d) r t₁
+  sum-left over z t t₁ r e f q h k =
       let small : plus < P + P = omega (arith, plus-is, x-small, y-small) in
-      let flow : eqb (c .over) 1 ≡ leb P (x + y) = ap (λ (q : Columns). eqb (q .over) 1) f ∙ carry-out plus P (ten-pos n) small ∙ ap (λ (q : ℕ). leb P q) plus-is in
+      let flow : eqb over 1 ≡ leb P (x + y) = ap (λ (v : ℕ). eqb v 1) f ∙ carry-out plus P (ten-pos n) small ∙ ap (λ (v : ℕ). leb P v) plus-is in
       rw (add-alike g x y)
-      (settled s n a status plus (x + y) g (eqb (c .over) 1) (o .inside) (o .fits) some (ap (λ (q : ℕ). q % P) plus-is) flow t (c .clear) r t₁ e (ap (λ (q : Columns). q .clear) f) h k)
+      (settled s n a status plus (x + y) g (eqb over 1) inn fits some (ap (λ (v : ℕ). v % P) plus-is) flow t z r t₁ e (zero-told s n a plus t z inn fits e q) h k)
 
   -- of two signs: ten to the n more than the difference
   abbrev ahead : ℕ
-  ahead = sumOf Plain Nines 1 n s a d
+  ahead = sumOf Nines 1 n s a d
 
   ahead-is : ahead + y ≡ x + P
   ahead-is = omega (arith, mod-eq-of-lt x-small, mod-eq-of-lt y-small, y-small)
 
-  module _ (c : Columns) (t : List ℕ) (e : t ≡ zonedBytes s n a false ahead) (f : c ≡ columnsOf n ahead) where
-    test : eqb (c .over) 1 ≡ leb P ahead
-    test = ap (λ (q : Columns). eqb (q .over) 1) f ∙ carry-out ahead P (ten-pos n) (omega (arith, ahead-is, x-small, y-small, ten-pos n))
+  module _ (over : ℕ) (t : List ℕ) (e : t ≡ zonedBytes s n a false ahead) (f : over ≡ ahead / P) where
+    test : eqb over 1 ≡ leb P ahead
+    test = ap (λ (v : ℕ). eqb v 1) f ∙ carry-out ahead P (ten-pos n) (omega (arith, ahead-is, x-small, y-small, ten-pos n))
 
-    pub more-left : c .over ≡ 1 → (r : ℕ) (t₁ : List ℕ) → r ≡ finished g false (c .clear) status → t₁ ≡ signPut g (c .clear) t a
+    pub more-left : over ≡ 1 → (z : Bool) (r : ℕ) (t₁ : List ℕ) → z ≡ eqb (size (bytesOf t n a)) 0 → r ≡ finished g false z status → t₁ ≡ signPut g z t a
         → Left s n a status (signedSum g (not g) s n a d) r t₁
-    more-left i r t₁ h k =
-        let full : P ≤ ahead = leb-true P ahead (sym test ∙ eq-eqb (c .over) 1 i) in
+    more-left i z r t₁ q h k =
+        let full : P ≤ ahead = leb-true P ahead (sym test ∙ eq-eqb over 1 i) in
         let le : y ≤ x = omega (arith, ahead-is) in
         let is : ahead ≡ x - y + P = omega (arith, ahead-is) in
         rw (add-unlike g x y le)
-        (settled s n a status ahead (x - y) g false (o .inside) (o .fits) some (ap (λ (q : ℕ). q % P) is ∙ add-mod-right (x - y) P)
-        (sym (lt-leb P (x - y) (omega (arith, x-small)))) t (c .clear) r t₁ e (ap (λ (q : Columns). q .clear) f) h k)
+        (settled s n a status ahead (x - y) g false inn fits some (ap (λ (v : ℕ). v % P) is ∙ add-mod-right (x - y) P)
+        (sym (lt-leb P (x - y) (omega (arith, x-small)))) t z r t₁ e (zero-told s n a ahead t z inn fits e q) h k)
 
     -- without a carry: ten to the n less that is the difference
     abbrev below : ℕ
-    below = sumOf Nines Plain 1 n t a (replicate 31 0)
+    below = roundOf n t a
 
-    short : (c .over ≡ 1 → ⊥) → ahead < P
-    short i = leb-false P ahead (sym test ∙ ne-eqb (c .over) 1 i)
+    short : (over ≡ 1 → ⊥) → ahead < P
+    short i = leb-false P ahead (sym test ∙ ne-eqb over 1 i)
 
     again-size : ahead < P → size (bytesOf t n a) ≡ ahead
-    again-size h = rw e (zoned-size s n a false ahead (o .inside) (o .fits) ∙ mod-eq-of-lt h)
+    again-size h = rw e (zoned-size s n a false ahead inn fits ∙ mod-eq-of-lt h)
 
     below-is : ahead < P → below ≡ y - x
     below-is h =
         let p : size (bytesOf t n a) % P ≡ ahead = rw (again-size h) (mod-eq-of-lt h) in
-        let q : size (bytesOf (replicate 31 0) n 30) % P ≡ 0 = rw (none-size n) (zero-mod P) in
-        omega (arith, p, q, ahead-is)
+        omega (arith, p, zero-mod P, ahead-is)
 
-    pub again : Operands t n a (replicate 31 0)
-    again =
-        record {
-          inside = rw (e, written-length) (o .inside);
-          fits = o .fits;
-          most = o .most;
-          digits-one = rw e (zoned-all s n a false ahead (o .inside) (o .fits));
-          digits-two = none-good n;
-        }
+    pub again : Field t n a
+    again = field-put s n a ahead t inn fits e
 
-    pub less-left : (c .over ≡ 1 → ⊥) → (c₂ : Columns) (t₂ : List ℕ) → t₂ ≡ zonedBytes t n a false below → c₂ ≡ columnsOf n below
-        → (r : ℕ) (t₁ : List ℕ) → r ≡ finished (not g) false (c₂ .clear) status → t₁ ≡ signPut (not g) (c₂ .clear) t₂ a
+    pub less-left : (over ≡ 1 → ⊥) → (t₂ : List ℕ) → t₂ ≡ zonedBytes t n a false below
+        → (z : Bool) (r : ℕ) (t₁ : List ℕ) → z ≡ eqb (size (bytesOf t₂ n a)) 0 → r ≡ finished (not g) false z status → t₁ ≡ signPut (not g) z t₂ a
         → Left s n a status (signedSum g (not g) s n a d) r t₁
-    less-left i c₂ t₂ e₂ f₂ r t₁ h k =
+    less-left i t₂ e₂ z r t₁ q h k =
         let lt : x < y = omega (arith, short i, ahead-is) in
-        let over : t₂ ≡ zonedBytes s n a false below = e₂ ∙ ap (λ (l : List ℕ). zonedBytes l n a false below) e ∙ written-again s n a _ _ (o .inside) (o .fits) in
+        let whole : t₂ ≡ zonedBytes s n a false below = e₂ ∙ ap (λ (l : List ℕ). zonedBytes l n a false below) e ∙ written-again s n a _ _ inn fits in
         rw (add-other g x y lt)
-        (settled s n a status below (y - x) (not g) false (o .inside) (o .fits) some (ap (λ (q : ℕ). q % P) (below-is (short i)))
-        (sym (lt-leb P (y - x) (omega (arith, y-small)))) t₂ (c₂ .clear) r t₁ over (ap (λ (q : Columns). q .clear) f₂) h k)
+        (settled s n a status below (y - x) (not g) false inn fits some (ap (λ (v : ℕ). v % P) (below-is (short i)))
+        (sym (lt-leb P (y - x) (omega (arith, y-small)))) t₂ z r t₁ whole (zero-told s n a below t₂ z inn fits whole q) h k)
+
+-- ---- zones put first
+
+module _ (s : List ℕ) (n a : ℕ) (inn : a < length s) (fits : n ≤ a + 1) (good : allDigits (bytesOf s n a) ≡ true) (t : List ℕ)
+    (e : t ≡ zonedBytes s n a false (size (bytesOf s n a))) where
+  zone-size : size (bytesOf t n a) ≡ size (bytesOf s n a)
+  zone-size = rw e (zoned-size s n a false (size (bytesOf s n a)) inn fits ∙ mod-eq-of-lt (size-below s n a good))
+
+  -- change neither the exact sum nor the result
+  pub zone-left : (status : ℕ) (g h : Bool) (d : List ℕ) (r : ℕ) (u : List ℕ) → Left t n a status (signedSum g h t n a d) r u → Left s n a status (signedSum g h s n a d) r u
+  zone-left status g h d r u l =
+      let k : Left t n a status (signedSum g h s n a d) r u = rw zone-size at l in
+      let m : Bool = leftMinus n (signedSum g h s n a d) in
+      let c : ℕ = cut n (signedSum g h s n a d) in
+      record { storage = k .storage ∙ ap (λ (v : List ℕ). zonedBytes v n a m c) e ∙ written-again s n a _ (zonedByte m c) inn fits; status-after = k .status-after }
 
 -- ---- operand 2 copied
 
@@ -141,9 +159,32 @@ module _ (s : List ℕ) (q a1 a2 status : ℕ) (ready : Ready s q a1 a2 status) 
   pub copy-digits : allDigits (bytesOf d (l1 q) 30) ≡ true
   copy-digits = copy-good s (l2 q) a2 (l1 q) d e (ready .digits-two) (omega arith) (omega arith)
 
-  pub operands : allDigits (bytesOf s (l1 q) a1) ≡ true → Operands s (l1 q) a1 d
-  operands good =
-      record { inside = ready .inside-one; fits = ready .fits-one; most = omega arith; digits-one = good; digits-two = copy-digits }
+  -- it has no more digits than operand 2
+  pub copy-short : size (bytesOf d (l1 q) 30) < 10 ^ l2 q
+  copy-short = rw copy-is (size-below s (l2 q) a2 (ready .digits-two))
+
+  pub operands : allDigits (bytesOf s (l1 q) a1) ≡ true → (t : List ℕ) → t ≡ zonedBytes s (l1 q) a1 false (size (bytesOf s (l1 q) a1)) → Operands t (l1 q) a1 d
+  operands good t f =
+      record { field = field-put s (l1 q) a1 _ t (ready .inside-one) (ready .fits-one) f; most = omega arith; digits-two = copy-digits }
+
+  -- ZAZ puts it as it is, and then the zones
+  module _ (t : List ℕ) (f : t ≡ written s (l1 q) a1 (λ j. getD d (30 - j) 0)) where
+    put-digit : (j : ℕ) → j < l1 q → digit (getD t (a1 - j) 0) ≡ digitAt (size (bytesOf d (l1 q) 30)) j
+    put-digit j p = rw f (ap digit (written-inside s (l1 q) a1 _ j (ready .inside-one) (ready .fits-one) p) ∙ digit-of-size d (l1 q) 30 j copy-digits p)
+
+    pub put-good : allDigits (bytesOf t (l1 q) a1) ≡ true
+    put-good = digits-read t (l1 q) a1 (λ j p. rw (put-digit j p) (digit-small (size (bytesOf d (l1 q) 30)) j))
+
+    put-size : size (bytesOf t (l1 q) a1) ≡ size (bytesOf d (l1 q) 30)
+    put-size = size-read t (l1 q) a1 (size (bytesOf d (l1 q) 30)) put-digit ∙ mod-eq-of-lt (size-below d (l1 q) 30 copy-digits)
+
+    pub put-inside : a1 < length t
+    put-inside = rw (f, written-length) (ready .inside-one)
+
+    pub put-zoned : (u : List ℕ) → u ≡ zonedBytes t (l1 q) a1 false (size (bytesOf t (l1 q) a1)) → u ≡ zonedBytes s (l1 q) a1 false (size (bytesOf d (l1 q) 30))
+    put-zoned u h =
+        h ∙ ap (λ (k : ℕ). zonedBytes t (l1 q) a1 false k) put-size ∙ ap (λ (v : List ℕ). zonedBytes v (l1 q) a1 false (size (bytesOf d (l1 q) 30))) f ∙
+        written-again s (l1 q) a1 _ _ (ready .inside-one) (ready .fits-one)
 
   pub zaz-left : (g z : Bool) (t t₁ : List ℕ) (r : ℕ) → g ≡ eqb (zone (getD s a2 0)) 0xD → t ≡ zonedBytes s (l1 q) a1 false (size (bytesOf d (l1 q) 30))
       → z ≡ eqb (size (bytesOf d (l1 q) 30) % 10 ^ l1 q) 0 → r ≡ finished g false z status → t₁ ≡ signPut g z t a1

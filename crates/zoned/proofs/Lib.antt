@@ -1,4 +1,6 @@
+mod Fields
 mod Summing
+mod Carrying
 mod Signs
 mod Settling
 mod Combining

@@ -2,16 +2,15 @@
 use mathlib.Core.Path.{_≡_}
 use mathlib.Core.Bool.{Bool, true, cond}
 use mathlib.Core.List.{List}
-use Prim.Native.Nat.{ℕ, _+_, _-_, _/_, _%_, _^_, _≤_, _<_}
-use lib.Dec.{eqb}
+use mathlib.Core.Logic.{_⊎_}
+use Prim.Native.Nat.{ℕ, _+_, _-_, _%_, _^_, _≤_, _<_}
 use lib.IntN.{ℤ, _+ℤ_}
 use lib.ListN.{length, getD, set}
-use Rattle.manual.specs.declared.Columns.{Columns}
 use Rattle.manual.specs.declared.Way.{Way}
 use Rattle.manual.specs.TheMachine.{decimalOverflow, equal, low, high, turnOn, setOrder}
 use Rattle.manual.specs.Programs.{andThen}
 use Rattle.manual.specs.Formats.{reach}
-use Rattle.manual.specs.Values.{bytesOf, digit, size, signed, allDigits, digitsOf, cut, leftMinus}
+use Rattle.manual.specs.Values.{bytesOf, digit, zone, size, signed, allDigits, digitsOf, cut, leftMinus}
 use Rattle.manual.specs.Zoned.{l1, l2, zonedStatus}
 use Rattle.manual.proofs.ZonedRead.{zonedBytes}
 use Rattle.zoned.specs.declared.Take.{Take}
@@ -34,6 +33,18 @@ pub record Ready (s : List ℕ) (q a1 a2 status : ℕ) : Type 0 where
   pub digits-two : allDigits (bytesOf s (l2 q) a2) ≡ true
   pub status-small : status < 64
 
+-- ---- bytes from the left
+
+-- k digits from the left on are 9 or below
+abbrev pub Digits : List ℕ → ℕ → ℕ → Type 0
+Digits s left k = (i : ℕ) → i < k → digit (getD s (left + i) 0) ≤ 9
+
+-- t is s with zone F over k digits from the left on
+pub record Zones (s : List ℕ) (left k : ℕ) (t : List ℕ) : Type 0 where
+  pub same-length : length t ≡ length s
+  pub inside : (i : ℕ) → left ≤ i → i < left + k → getD t i 0 ≡ 0xF0 + digit (getD s i 0)
+  pub outside : (i : ℕ) → (i < left) ⊎ (left + k ≤ i) → getD t i 0 ≡ getD s i 0
+
 -- ---- columns
 
 -- what a digit adds to its column
@@ -51,20 +62,34 @@ abbrev pub addedUp : Take → Take → ℕ → ℕ → ℕ → ℕ → ℕ
 addedUp v w c n x y = part v n x + part w n y + c
 
 -- the field in storage, and the one that a copy d holds at its right end
-abbrev pub sumOf : Take → Take → ℕ → ℕ → List ℕ → ℕ → List ℕ → ℕ
-sumOf v w c n s a d = addedUp v w c n (size (bytesOf s n a)) (size (bytesOf d n 30))
+abbrev pub sumOf : Take → ℕ → ℕ → List ℕ → ℕ → List ℕ → ℕ
+sumOf w c n s a d = addedUp Plain w c n (size (bytesOf s n a)) (size (bytesOf d n 30))
 
--- both are fields of digits
-pub record Operands (s : List ℕ) (n a : ℕ) (d : List ℕ) : Type 0 where
+-- the field in storage, and a carry
+abbrev pub alone : Take → ℕ → ℕ → List ℕ → ℕ → ℕ
+alone w c n s a = addedUp Plain w c n (size (bytesOf s n a)) 0
+
+-- the carry that then changes no digit
+abbrev pub still : Take → ℕ
+still Plain = 0
+still Nines = 1
+
+-- ten to the n less the field in storage
+abbrev pub roundOf : ℕ → List ℕ → ℕ → ℕ
+roundOf n s a = addedUp Nines Plain 1 n (size (bytesOf s n a)) 0
+
+-- a field of digits whose zones are F
+pub record Field (s : List ℕ) (n a : ℕ) : Type 0 where
   pub inside : a < length s
   pub fits : n ≤ a + 1
-  pub most : n ≤ 31
-  pub digits-one : allDigits (bytesOf s n a) ≡ true
-  pub digits-two : allDigits (bytesOf d n 30) ≡ true
+  pub digits : allDigits (bytesOf s n a) ≡ true
+  pub zones : (j : ℕ) → j < n → zone (getD s (a - j) 0) ≡ 0xF
 
--- what n columns tell of their sum: what is carried out of the last, and whether the digits left are zero
-abbrev pub columnsOf : ℕ → ℕ → Columns
-columnsOf n t = record { over = t / 10 ^ n; clear = eqb (t % 10 ^ n) 0 }
+-- such a field, and digits to add to it
+pub record Operands (s : List ℕ) (n a : ℕ) (d : List ℕ) : Type 0 where
+  pub field : Field s n a
+  pub most : n ≤ 31
+  pub digits-two : allDigits (bytesOf d n 30) ≡ true
 
 -- ---- the result
 

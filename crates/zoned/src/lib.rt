@@ -1,5 +1,6 @@
 // ZAZ, AZ and SZ: each does what its rule says. A zoned field is n bytes whose rightmost is at a.
 ghost use mathlib.Core.Path.{_≡_};
+ghost use mathlib.Core.Logic.{_↔_};
 ghost use mathlib.Core.Bool.{true, false, cond, not};
 ghost use Prim.Native.Nat.{_+_, _-_, _*_, _/_, _%_, _^_, _<_, _≤_};
 ghost use lib.Dec.{eqb};
@@ -11,8 +12,7 @@ ghost use Rattle.manual.specs.Zoned.{l1, l2, zaz, az, sz};
 ghost use Rattle.manual.proofs.FieldBytes.{written};
 ghost use Rattle.manual.proofs.ZonedRead.{zonedBytes};
 ghost use Rattle.parts.specs.Inside.{endOf, LeafDoes, Within};
-ghost use Rattle.zoned.specs.Working.{zazWay, combineWay, Ready, taken, Operands, sumOf, columnsOf, signPut, finished, signedSum, Left};
-use manual::Columns;
+ghost use Rattle.zoned.specs.Working.{zazWay, combineWay, Ready, Digits, Zones, Field, still, alone, roundOf, taken, Operands, sumOf, signPut, finished, signedSum, Left};
 use manual::Fields;
 use parts::Core;
 use parts::End;
@@ -33,17 +33,50 @@ fn l1(q: u8) -> usize
     parts::wide(q / 16) + l2(q)
 }
 
-// A digit above 9 stops with 8; the rightmost is tested first.
-fn digits_of(s: &[u8], n: usize, a: usize) -> End
-    requires { ⌜ (a < length (now s)) × (n ≤ a + 1) ⌝ }
-    ensures { λ r. ⌜ r ≡ endOf (digitsOf (bytesOf (now (s .entry)) n a)) ⌝ }
+// Whether one of k digits is above 9: by rising addresses and without an early way out, so that the compiler takes many at a time.
+fn some_bad(s: &[u8], left: usize, k: usize) -> bool
+    requires { ⌜ left + k ≤ length (now s) ⌝ }
+    ensures { λ r. ⌜ (r ≡ false) ↔ Digits (now (s .entry)) left k ⌝ }
 {
+    let mut bad = false;
     let mut i = 0;
-    while i < n {
-        if 9 < s[a - i] % 16 {
-            return End::BadDigit;
+    while i < k {
+        if 9 < s[left + i] % 16 {
+            bad = true;
         }
         i += 1;
+    }
+    bad
+}
+
+// The same of a field: 16 or 8 from its left and as many from its right, since a constant count leaves no rest that goes one by one.
+fn has_bad(s: &[u8], n: usize, a: usize) -> bool
+    requires { ⌜ (a < length (now s)) × (n ≤ a + 1) × (n ≤ 31) ⌝ }
+    ensures { λ r. ⌜ r ≡ not (allDigits (bytesOf (now (s .entry)) n a)) ⌝ }
+{
+    let left = a + 1 - n;
+    if 16 <= n {
+        if some_bad(s, left, 16) {
+            return true;
+        }
+        return some_bad(s, a - 15, 16);
+    }
+    if 8 <= n {
+        if some_bad(s, left, 8) {
+            return true;
+        }
+        return some_bad(s, a - 7, 8);
+    }
+    some_bad(s, left, n)
+}
+
+// A digit above 9 stops with 8.
+fn digits_of(s: &[u8], n: usize, a: usize) -> End
+    requires { ⌜ (a < length (now s)) × (n ≤ a + 1) × (n ≤ 31) ⌝ }
+    ensures { λ r. ⌜ r ≡ endOf (digitsOf (bytesOf (now (s .entry)) n a)) ⌝ }
+{
+    if has_bad(s, n, a) {
+        return End::BadDigit;
     }
     End::Gone
 }
@@ -86,22 +119,65 @@ fn copied(s: &[u8], n: usize, a: usize) -> [u8; 31]
     d
 }
 
-// The digits of d, zones F; whether all are zero.
-fn put_digits(s: &mut [u8], n: usize, a: usize, d: &[u8; 31]) -> bool
+// The copy put in the field, as it is.
+fn put_copy(s: &mut [u8], n: usize, a: usize, d: &[u8; 31])
     requires { ⌜ (a < length (now s)) × (n ≤ a + 1) × (n ≤ 31) ⌝ }
-    requires { ⌜ allDigits (bytesOf (now d) n 30) ≡ true ⌝ }
-    ensures { λ r. ⌜ now (s .exit) ≡ zonedBytes (now (s .entry)) n a false (size (bytesOf (now (d .entry)) n 30)) ⌝ }
-    ensures { λ r. ⌜ r ≡ eqb (size (bytesOf (now (d .entry)) n 30) % 10 ^ n) 0 ⌝ }
+    ensures { λ _. ⌜ now (s .exit) ≡ written (now (s .entry)) n a (λ j. getD (now (d .entry)) (30 - j) 0) ⌝ }
 {
-    let mut clear = true;
     let mut i = 0;
     while i < n {
-        let v = d[30 - i] % 16;
-        parts::put_byte(s, a - i, 240 + v);
-        clear = clear && v == 0;
+        parts::put_byte(s, a - i, d[30 - i]);
         i += 1;
     }
-    clear
+}
+
+// Zone F over k digits, by rising addresses.
+fn put_zones(s: &mut [u8], left: usize, k: usize)
+    requires { ⌜ left + k ≤ length (now s) ⌝ }
+    ensures { λ _. ⌜ Zones (now (s .entry)) left k (now (s .exit)) ⌝ }
+{
+    let mut i = 0;
+    while i < k {
+        let v = 240 + s[left + i] % 16;
+        parts::put_byte(s, left + i, v);
+        i += 1;
+    }
+}
+
+// Zone F over a field of digits, 16 or 8 from its right, where the columns start, and as many from its left: a byte that gets it twice is the same.
+fn put_zone(s: &mut [u8], n: usize, a: usize)
+    requires { ⌜ (a < length (now s)) × (n ≤ a + 1) × (n ≤ 31) ⌝ }
+    requires { ⌜ allDigits (bytesOf (now s) n a) ≡ true ⌝ }
+    ensures { λ _. ⌜ now (s .exit) ≡ zonedBytes (now (s .entry)) n a false (size (bytesOf (now (s .entry)) n a)) ⌝ }
+{
+    let left = a + 1 - n;
+    if 16 <= n {
+        put_zones(s, a - 15, 16);
+        put_zones(s, left, 16);
+        return;
+    }
+    if 8 <= n {
+        put_zones(s, a - 7, 8);
+        put_zones(s, left, 8);
+        return;
+    }
+    put_zones(s, left, n);
+}
+
+// Whether the digits are all zero: mostly the rightmost tells.
+fn is_zero(s: &[u8], n: usize, a: usize) -> bool
+    requires { ⌜ (a < length (now s)) × (n ≤ a + 1) ⌝ }
+    requires { ⌜ allDigits (bytesOf (now s) n a) ≡ true ⌝ }
+    ensures { λ r. ⌜ r ≡ eqb (size (bytesOf (now (s .entry)) n a)) 0 ⌝ }
+{
+    let mut i = 0;
+    while i < n {
+        if s[a - i] % 16 != 0 {
+            return false;
+        }
+        i += 1;
+    }
+    true
 }
 
 // What a digit adds to its column: itself, or nine less itself.
@@ -121,46 +197,92 @@ fn taken(w: Take, b: u8) -> usize
     }
 }
 
-// What a column carries on: a comparison, since a division would make the next column wait.
+// What a column carries on, its digits on top of the zone's 240: a comparison, since a division would make the next column wait.
 fn carried(t: usize) -> usize
-    requires { ⌜ t < 20 ⌝ }
-    ensures { λ r. ⌜ r ≡ t / 10 ⌝ }
+    requires { ⌜ t < 260 ⌝ }
+    ensures { λ r. ⌜ r ≡ (t - 240) / 10 ⌝ }
 {
-    if 9 < t {
+    if 249 < t {
         return 1;
     }
     0
 }
 
-// Adds the digits of d to those of the field, column by column from the right.
-fn columns(
-    s: &mut [u8],
-    n: usize,
-    a: usize,
-    d: &[u8; 31],
-    v: Take,
-    w: Take,
-    start: usize,
-) -> Columns
+// The carry that changes no further digit where there are none to add.
+fn still(w: Take) -> usize
+    ensures { λ r. ⌜ r ≡ still w ⌝ }
+{
+    match w {
+        Take::Plain => 0,
+        Take::Nines => 1,
+    }
+}
+
+// Adds the digits of d to those of the field, column by column from the right. The zones are F, so that a column is 240 and its digits.
+fn columns(s: &mut [u8], n: usize, a: usize, d: &[u8; 31], w: Take, start: usize) -> usize
     requires { ⌜ Operands (now s) n a (now d) ⌝ }
     requires { ⌜ start ≤ 1 ⌝ }
-    ensures { λ r. ⌜ now (s .exit) ≡ zonedBytes (now (s .entry)) n a false (sumOf v w start n (now (s .entry)) a (now (d .entry))) ⌝ }
-    ensures { λ r. ⌜ r ≡ columnsOf n (sumOf v w start n (now (s .entry)) a (now (d .entry))) ⌝ }
+    ensures { λ r. ⌜ now (s .exit) ≡ zonedBytes (now (s .entry)) n a false (sumOf w start n (now (s .entry)) a (now (d .entry))) ⌝ }
+    ensures { λ r. ⌜ (r ≡ sumOf w start n (now (s .entry)) a (now (d .entry)) / 10 ^ n) × (r ≤ 1) ⌝ }
 {
     let mut over = start;
-    let mut clear = true;
     let mut j = 0;
     while j < n {
-        let t = taken(v, s[a - j]) + taken(w, d[30 - j]) + over;
+        let t = parts::wide(s[a - j]) + taken(w, d[30 - j]) + over;
         over = carried(t);
-        let low = t - 10 * over;
-        parts::put_byte(s, a - j, 240 + low as u8);
-        clear = clear && low == 0;
+        parts::put_byte(s, a - j, (t - 10 * over) as u8);
         j += 1;
     }
-    Columns {
-        over: over,
-        clear: clear,
+    over
+}
+
+// Where there are no more digits to add only the carry runs on, and mostly not far.
+fn run_on(s: &mut [u8], n: usize, a: usize, w: Take, start: usize) -> usize
+    requires { ⌜ Field (now s) n a ⌝ }
+    requires { ⌜ start ≤ 1 ⌝ }
+    ensures { λ r. ⌜ now (s .exit) ≡ zonedBytes (now (s .entry)) n a false (alone w start n (now (s .entry)) a) ⌝ }
+    ensures { λ r. ⌜ r ≡ alone w start n (now (s .entry)) a / 10 ^ n ⌝ }
+{
+    let mut over = start;
+    let mut j = 0;
+    while j < n {
+        if over == still(w) {
+            return over;
+        }
+        let t = parts::wide(s[a - j]) + taken(w, 0) + over;
+        over = carried(t);
+        parts::put_byte(s, a - j, (t - 10 * over) as u8);
+        j += 1;
+    }
+    over
+}
+
+// Adds d, which has k digits, to the n of the field.
+fn added(s: &mut [u8], n: usize, a: usize, k: usize, d: &[u8; 31], w: Take, start: usize) -> usize
+    requires { ⌜ Operands (now s) n a (now d) ⌝ }
+    requires { ⌜ (k ≤ n) × (size (bytesOf (now d) n 30) < 10 ^ k) × (start ≤ 1) ⌝ }
+    ensures { λ r. ⌜ now (s .exit) ≡ zonedBytes (now (s .entry)) n a false (sumOf w start n (now (s .entry)) a (now (d .entry))) ⌝ }
+    ensures { λ r. ⌜ r ≡ sumOf w start n (now (s .entry)) a (now (d .entry)) / 10 ^ n ⌝ }
+{
+    let over = columns(s, k, a, d, w, start);
+    if k < n {
+        return run_on(s, n - k, a - k, w, over);
+    }
+    over
+}
+
+// Ten to the n less the field.
+fn turned(s: &mut [u8], n: usize, a: usize)
+    requires { ⌜ Field (now s) n a ⌝ }
+    ensures { λ _. ⌜ now (s .exit) ≡ zonedBytes (now (s .entry)) n a false (roundOf n (now (s .entry)) a) ⌝ }
+{
+    let mut over = 1;
+    let mut j = 0;
+    while j < n {
+        let t = 240 + taken(Take::Nines, s[a - j]) + over;
+        over = carried(t);
+        parts::put_byte(s, a - j, (t - 10 * over) as u8);
+        j += 1;
     }
 }
 
@@ -196,28 +318,48 @@ fn finish(s: &mut [u8], a: usize, minus: bool, over: bool, clear: bool, status: 
 }
 
 // Two sizes of one sign add.
-fn sum(s: &mut [u8], n: usize, a: usize, d: &[u8; 31], minus: bool, status: usize) -> usize
+fn sum(
+    s: &mut [u8],
+    n: usize,
+    a: usize,
+    k: usize,
+    d: &[u8; 31],
+    minus: bool,
+    status: usize,
+) -> usize
     requires { ⌜ Operands (now s) n a (now d) ⌝ }
+    requires { ⌜ (k ≤ n) × (size (bytesOf (now d) n 30) < 10 ^ k) ⌝ }
     requires { ⌜ (0 < n) × (status < 64) ⌝ }
     ensures { λ r. ⌜ Left (now (s .entry)) n a status (signedSum minus minus (now (s .entry)) n a (now (d .entry))) r (now (s .exit)) ⌝ }
 {
-    let c = columns(s, n, a, d, Take::Plain, Take::Plain, 0);
-    finish(s, a, minus, c.over == 1, c.clear, status)
+    let over = added(s, n, a, k, d, Take::Plain, 0);
+    let clear = is_zero(s, n, a);
+    finish(s, a, minus, over == 1, clear, status)
 }
 
 // Of two signs the smaller size is taken off the larger, whose sign stays. Without a carry operand 2's is the larger, and the columns hold ten to the n less the result.
-fn difference(s: &mut [u8], n: usize, a: usize, d: &[u8; 31], minus: bool, status: usize) -> usize
+fn difference(
+    s: &mut [u8],
+    n: usize,
+    a: usize,
+    k: usize,
+    d: &[u8; 31],
+    minus: bool,
+    status: usize,
+) -> usize
     requires { ⌜ Operands (now s) n a (now d) ⌝ }
+    requires { ⌜ (k ≤ n) × (size (bytesOf (now d) n 30) < 10 ^ k) ⌝ }
     requires { ⌜ (0 < n) × (status < 64) ⌝ }
     ensures { λ r. ⌜ Left (now (s .entry)) n a status (signedSum minus (not minus) (now (s .entry)) n a (now (d .entry))) r (now (s .exit)) ⌝ }
 {
-    let c = columns(s, n, a, d, Take::Plain, Take::Nines, 1);
-    if c.over == 1 {
-        return finish(s, a, minus, false, c.clear, status);
+    let over = added(s, n, a, k, d, Take::Nines, 1);
+    if over == 1 {
+        let clear = is_zero(s, n, a);
+        return finish(s, a, minus, false, clear, status);
     }
-    let none = [0u8; 31];
-    let e = columns(s, n, a, &none, Take::Nines, Take::Plain, 1);
-    finish(s, a, !minus, false, e.clear, status)
+    turned(s, n, a);
+    let clear = is_zero(s, n, a);
+    finish(s, a, !minus, false, clear, status)
 }
 
 // ---- the instructions, where nothing stands in the way
@@ -236,7 +378,9 @@ fn put_second(s: &mut [u8], q: u8, a1: usize, a2: usize, status: usize) -> usize
 {
     let d = copied(s, l2(q), a2);
     let minus = is_minus(s[a2]);
-    let clear = put_digits(s, l1(q), a1, &d);
+    put_copy(s, l1(q), a1, &d);
+    put_zone(s, l1(q), a1);
+    let clear = is_zero(s, l1(q), a1);
     finish(s, a1, minus, false, clear, status)
 }
 
@@ -249,10 +393,11 @@ fn combined(s: &mut [u8], q: u8, a1: usize, a2: usize, less: bool, status: usize
     let d = copied(s, l2(q), a2);
     let m1 = is_minus(s[a1]);
     let m2 = is_minus(s[a2]) != less;
+    put_zone(s, l1(q), a1);
     if m1 == m2 {
-        return sum(s, l1(q), a1, &d, m1, status);
+        return sum(s, l1(q), a1, l2(q), &d, m1, status);
     }
-    difference(s, l1(q), a1, &d, m1, status)
+    difference(s, l1(q), a1, l2(q), &d, m1, status)
 }
 
 // ---- the leaves

@@ -11,7 +11,7 @@ digits-of-requires c κs =
     let g = c .before .before in
     let a = g .before .before .before .args in
     let r = zaz-ready (a .s .now) (a .q) (a .a1) (a .a2) 0 (omega arith) _ (g .before .zaz-way .ensures) (sym (g .is-gone .ensures) ∙ c .before .if1 .taken) in
-    (r .inside-one, rw (c .l1 .ensures) (r .fits-one))
+    (r .inside-one, rw (c .l1 .ensures) (r .fits-one), rw (c .l1 .ensures) (omega arith))
 
 returns : tie.Need-returns
 returns c =

@@ -1,5 +1,6 @@
 -- `zoned::zaz_way`: the tests stand in the definition's order.
 use mathlib.Core.Path.{_≡_, sym, _∙_}
+use native.Mathlib.Omega.{arith}
 use borrow.Author.Needs.{needs}
 use lib.ListN.{length}
 use Rattle.manual.specs.Programs.{andThen}
@@ -19,7 +20,7 @@ digits-of-requires c κs =
     let g = c .before .before in
     let a = g .before .before .before .before .before .args in
     let r = reached (length (a .s .now)) (l1 (a .q)) (a .a1) (l2 (a .q)) (a .a2) _ (way (g .before)) (sym (g .is-gone .ensures) ∙ c .before .if1 .taken) .1 in
-    (r .0, rw (c .l22 .ensures) (r .1))
+    (r .0, rw (c .l22 .ensures) (r .1), rw (c .l22 .ensures) (omega arith))
 
 returns : tie.Need-returns
 returns c =
