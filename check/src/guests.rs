@@ -53,14 +53,14 @@ impl Assembler {
         self.bytes.extend([0xF2, q, by]);
     }
 
-    fn guest(self, name: &'static str, budget: u32, data: &[(usize, &[u8])]) -> Guest {
+    fn guest(self, name: &'static str, data: &[(usize, &[u8])]) -> Guest {
         let mut storage = vec![0; 0x2000];
         storage[CODE as usize..CODE as usize + self.bytes.len()].copy_from_slice(&self.bytes);
         for (from, bytes) in data {
             storage[*from..from + bytes.len()].copy_from_slice(bytes);
         }
         let m = Machine { iar: CODE, xr1: 0x1000, xr2: 0x1100, status: 1, ..Machine::default() };
-        Guest { name, m, storage, budget }
+        Guest { name, m, storage, budget: FULL }
     }
 }
 
@@ -80,7 +80,7 @@ fn compare_and_jump() -> Guest {
     a.jump_over(IF_LOW, 0);
     a.bytes(&[0x7D, 0x40, 0x00]);
     a.jump_back(IF_EQUAL, top);
-    a.guest("compare", FULL, &[(0x1000, &[0x40])])
+    a.guest("compare", &[(0x1000, &[0x40])])
 }
 
 fn register_arithmetic() -> Guest {
@@ -103,7 +103,7 @@ fn register_arithmetic() -> Guest {
     a.bytes(&[0xC2, 0x44, 0x12, 0x34]); // LA WR4
     a.jump_back(ALWAYS, top);
     let data: &[u8] = &[0, 7, 0xFF, 0xF0, 0, 3, 0, 0, 0, 0, 0, 2, 0, 4, 0, 4];
-    a.guest("registers", FULL, &[(0x1000, data)])
+    a.guest("registers", &[(0x1000, data)])
 }
 
 fn move_and_compare() -> Guest {
@@ -116,7 +116,7 @@ fn move_and_compare() -> Guest {
     a.bytes(&[0x6D, 99, 0x63, 0x63]); // CLC, XR1 with XR2
     a.jump_back(IF_EQUAL, top);
     let text: Vec<u8> = (0..100).map(|i| 0xC1 + i % 9).collect();
-    a.guest("characters", FULL / 2, &[(0x1100, &text)])
+    a.guest("characters", &[(0x1100, &text)])
 }
 
 fn logical_sums() -> Guest {
@@ -129,11 +129,7 @@ fn logical_sums() -> Guest {
     a.jump_back(ALWAYS, top);
     let number: Vec<u8> = (0..16).map(|i| 0xFF - i * 13).collect();
     let other: Vec<u8> = (0..16).map(|i| i * 17 + 3).collect();
-    a.guest(
-        "logical",
-        FULL,
-        &[(0x1000, &number), (0x1100, &other), (0x1020, &other), (0x1040, &number), (0x1120, &other)],
-    )
+    a.guest("logical", &[(0x1000, &number), (0x1100, &other), (0x1020, &other), (0x1040, &number), (0x1120, &other)])
 }
 
 /// A zoned number of a length, its digits rising.
@@ -146,7 +142,7 @@ fn zoned(length: usize, first: u8, minus: bool) -> Vec<u8> {
 }
 
 /// Operand 1 at 1000 and 1040, operand 2 at 1100 (plus) and 1140 (minus).
-fn zoned_sums(name: &'static str, l1: usize, l2: usize, budget: u32) -> Guest {
+fn zoned_sums(name: &'static str, l1: usize, l2: usize) -> Guest {
     let q = ((l1 - l2) * 16 + l2 - 1) as u8;
     let last = |first: usize, length: usize| (first + length - 1) as u16;
     let mut a = Assembler::new();
@@ -157,7 +153,7 @@ fn zoned_sums(name: &'static str, l1: usize, l2: usize, budget: u32) -> Guest {
     a.bytes(&[0x67, q, (0x40 + l1 - 1) as u8, (0x40 + l2 - 1) as u8]); // SZ of a minus
     a.jump_back(ALWAYS, top);
     let fields = [zoned(l1, 0, false), zoned(l1, 2, true), zoned(l2, 7, false), zoned(l2, 1, true)];
-    a.guest(name, budget, &[(0x1000, &fields[0]), (0x1040, &fields[1]), (0x1100, &fields[2]), (0x1140, &fields[3])])
+    a.guest(name, &[(0x1000, &fields[0]), (0x1040, &fields[1]), (0x1100, &fields[2]), (0x1140, &fields[3])])
 }
 
 /// Eight records of a store, each of 32 bytes: month (2), name (10), balance (7), issue (5).
@@ -216,7 +212,7 @@ fn issue_program() -> Guest {
         (0x1270, &receipt),
         (0x1000, &[0x40]),
     ];
-    a.guest("issue", FULL, data)
+    a.guest("issue", data)
 }
 
 pub fn all() -> Vec<Guest> {
@@ -225,8 +221,8 @@ pub fn all() -> Vec<Guest> {
         register_arithmetic(),
         move_and_compare(),
         logical_sums(),
-        zoned_sums("zoned15", 15, 8, FULL / 2),
-        zoned_sums("zoned31", 31, 16, FULL / 2),
+        zoned_sums("zoned15", 15, 8),
+        zoned_sums("zoned31", 31, 16),
         issue_program(),
     ]
 }
