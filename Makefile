@@ -15,14 +15,14 @@ help:
 # the program is proved and built first, which takes some minutes the first time and a moment after
 run:
 	@mkdir -p target
-	@rt check deck_runner > target/run.log 2>&1 || { cat target/run.log; exit 1; }
-	@target/bin/deck_runner < $(DECK)
+	@(cd crates/deck_runner && rt run < stdin) > target/run.log 2>&1 || { cat target/run.log; exit 1; }
+	@crates/deck_runner/out/deck_runner < $(DECK)
 
 # proved first, as above
 lib:
 	@mkdir -p target/lib
-	@rt staticlib host > target/lib.log 2>&1 || { cat target/lib.log; exit 1; }
-	@cp target/staticlib/libhost.a target/lib/libaqtovmesh.a
+	@(cd crates/host && rt lib) > target/lib.log 2>&1 || { cat target/lib.log; exit 1; }
+	@cp crates/host/out/libhost.a target/lib/libaqtovmesh.a
 	@cp bindings/include/aqtovmesh.h target/lib/
 	@echo "target/lib has libaqtovmesh.a and aqtovmesh.h"
 
@@ -46,4 +46,4 @@ test:
 	.ci/run
 
 fmt:
-	rt fmt
+	@for crate in crates/*/; do (cd $$crate && rt fmt) || exit 1; done

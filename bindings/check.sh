@@ -1,12 +1,12 @@
 #!/usr/bin/env bash
 # The bindings against the compiled library: layout and tests on both sides, and the example hosts in C and Rust, which print and write the same.
-# Takes the archive of `rt staticlib host`; everything built goes under target/bindings.
+# Takes the archive of `make lib`; everything built goes under target/bindings.
 set -euo pipefail
 cd "$(dirname "$0")/.."
-archive=target/staticlib/libhost.a
-[ -f "$archive" ] || { echo "no $archive: run rt staticlib host"; exit 1; }
+archive=target/lib/libaqtovmesh.a
+[ -f "$archive" ] || { echo "no $archive: run make lib"; exit 1; }
 built=target/bindings
-export CARGO_TARGET_DIR="$PWD/$built/cargo" AQTOVMESH_LIB="$PWD/target/staticlib"
+export CARGO_TARGET_DIR="$PWD/$built/cargo" AQTOVMESH_LIB="$PWD/target/lib"
 mkdir -p "$built"
 
 # a C++ host includes the same header

@@ -1,9 +1,9 @@
 #!/usr/bin/env bash
 # The library's speed: instructions a step by callgrind where valgrind is there, the stack that a run takes, and steps a second beside both yardsticks.
-# The last line is `ratio: X`. Takes the archive of `rt staticlib host`; everything built goes under target/check.
+# The last line is `ratio: X`. Takes the archive of `make lib`; everything built goes under target/check.
 set -euo pipefail
 cd "$(dirname "$0")/.."
-export CARGO_TARGET_DIR="$PWD/target/check" AQTOVMESH_LIB="$PWD/target/staticlib"
+export CARGO_TARGET_DIR="$PWD/target/check" AQTOVMESH_LIB="$PWD/target/lib"
 cargo build --quiet --release --offline --locked --manifest-path check/Cargo.toml
 bench=target/check/release/bench
 collected() { valgrind --tool=callgrind --callgrind-out-file=/dev/null "$bench" --only "$1" "$2" "$3" 2>&1 >/dev/null | sed -n 's/.*Collected : //p'; }

@@ -1,4 +1,4 @@
-//! Links the static library from the directory AQTOVMESH_LIB, or from the repository's own target/staticlib.
+//! Links the static library from the directory AQTOVMESH_LIB, or from the repository's own target/lib.
 use std::env;
 use std::path::PathBuf;
 
@@ -7,14 +7,11 @@ fn main() {
     let manifest = PathBuf::from(env::var_os("CARGO_MANIFEST_DIR").expect("cargo sets CARGO_MANIFEST_DIR"));
     let dir = match env::var_os("AQTOVMESH_LIB") {
         Some(dir) => PathBuf::from(dir),
-        None => manifest.join("../../target/staticlib"),
+        None => manifest.join("../../target/lib"),
     };
-    // `rt staticlib host` names it after its crate, `make lib` after the product
-    let names = ["aqtovmesh", "host"];
-    let Some(name) = names.iter().find(|name| dir.join(format!("lib{name}.a")).exists()) else {
-        panic!("no libaqtovmesh.a or libhost.a in {}: run `make lib`, or name its directory in AQTOVMESH_LIB", dir.display());
-    };
-    println!("cargo:rerun-if-changed={}", dir.join(format!("lib{name}.a")).display());
+    let archive = dir.join("libaqtovmesh.a");
+    assert!(archive.exists(), "no libaqtovmesh.a in {}: run `make lib`, or name its directory in AQTOVMESH_LIB", dir.display());
+    println!("cargo:rerun-if-changed={}", archive.display());
     println!("cargo:rustc-link-search=native={}", dir.display());
-    println!("cargo:rustc-link-lib=static={name}");
+    println!("cargo:rustc-link-lib=static=aqtovmesh");
 }
