@@ -140,6 +140,7 @@ written_outside s (suc n) a f i h =
 
 pub written_inside : (s : List ℕ) (n a : ℕ) (f : ℕ → ℕ) (j : ℕ) → a < length s → n ≤ a + 1 → j < n → get_or (written s n a f) (a - j) 0 ≡ f j
 unfolding written
+written_inside s zero a f j inn fits q = elim q [ ]
 written_inside s (suc n) a f j inn fits q =
     ⊎_elim
     (λ e. rw e (get_or-set_same (written s n a f) (a - n) (f n) 0 (omega (arith, written_length s n a f))))

@@ -108,13 +108,13 @@ module _ (column : ℕ → ℕ → ℕ → Column) where
   pub columns_length : (s : List ℕ) (n a b : ℕ) (c : Columns) → length (columns_bytes column s n a b c) ≡ length s
   unfolding columns_bytes
   columns_length s zero a b c = refl
-  columns_length s (suc n) a b c = columns_length _ n (a - 1) (b - 1) _ ∙ length-set s a _
+  columns_length s (suc n) a b c = columns_length (bytes_next column s a b c) n (a - 1) (b - 1) (columns_after column s a b c) ∙ length-set s a _
 
   pub columns_outside : (s : List ℕ) (n a b : ℕ) (c : Columns) (i : ℕ) → Outside n a i → get_or (columns_bytes column s n a b c) i 0 ≡ get_or s i 0
   unfolding columns_bytes
   columns_outside s zero a b c i h = refl
   columns_outside s (suc n) a b c i h =
-      columns_outside _ n (a - 1) (b - 1) _ i (outside_left n a i h)
+      columns_outside (bytes_next column s a b c) n (a - 1) (b - 1) (columns_after column s a b c) i (outside_left n a i h)
       ∙ get_or-set_other s a i _ 0 (λ e. outside_apart (suc n) a i h 0 (omega arith) (omega arith))
 
   -- the first column, and the others to the left of it
@@ -131,7 +131,7 @@ module _ (column : ℕ → ℕ → ℕ → Column) where
 
   head_stays : (s : List ℕ) (n a b : ℕ) (c : Columns) → a < length s → n ≤ a → get_or (columns_bytes column s (suc n) a b c) a 0 ≡ (column_at column s a b c).byte
   unfolding columns_bytes
-  head_stays s n a b c l h = columns_outside _ n (a - 1) (b - 1) _ a (outside_from n a a h (omega arith)) ∙ get_or-set_same s a _ 0 l
+  head_stays s n a b c l h = columns_outside (bytes_next column s a b c) n (a - 1) (b - 1) (columns_after column s a b c) a (outside_from n a a h (omega arith)) ∙ get_or-set_same s a _ 0 l
 
   left_more : (s : List ℕ) (n a b : ℕ) (c : Columns) → a < length s → n ≤ a
       → number (bytes_of (columns_bytes column s (suc n) a b c) (suc n) a)
@@ -152,7 +152,7 @@ pub columns_clear : (column : ℕ → ℕ → ℕ → Column) (s : List ℕ) (n 
 columns_clear column s zero a b c l h = unfold columns_give bytes_of number in sym (and-true c.clear)
 columns_clear column s (suc n) a b c l h =
     rw (left_more column s n a b c l (omega arith), give_more column s n a b c, zero_digits, ← and_assoc)
-    (columns_clear column _ n (a - 1) (b - 1) _ (left_inside s a _ l) (omega arith))
+    (columns_clear column (bytes_next column s a b c) n (a - 1) (b - 1) (columns_after column s a b c) (left_inside s a _ l) (omega arith))
 
 -- ---- the sum, whatever overlaps
 
@@ -217,13 +217,13 @@ module _ (column : ℕ → ℕ → ℕ → Column) where
   unfolding taken_of bytes_of
   taken_left s zero a b c h d = refl
   taken_left s (suc n) a b c h d =
-      ap (λ (l : List ℕ). get_or s b 0 ∷ l) (taken_left _ n (a - 1) (b - 1) _ (omega arith) (omega arith) ∙ bytes_beside s n (b - 1) a _ (outside_from n b a (omega arith) d))
+      ap (λ (l : List ℕ). get_or s b 0 ∷ l) (taken_left (bytes_next column s a b c) n (a - 1) (b - 1) (columns_after column s a b c) (omega arith) (omega arith) ∙ bytes_beside s n (b - 1) a _ (outside_from n b a (omega arith) d))
 
   taken_right : (s : List ℕ) (n a b : ℕ) (c : Columns) → a + n ≤ b → taken_of column s n a b c ≡ bytes_of s n b
   unfolding taken_of bytes_of
   taken_right s zero a b c d = refl
   taken_right s (suc n) a b c d =
-      ap (λ (l : List ℕ). get_or s b 0 ∷ l) (taken_right _ n (a - 1) (b - 1) _ (omega arith) ∙ bytes_beside s n (b - 1) a _ (inr (omega arith)))
+      ap (λ (l : List ℕ). get_or s b 0 ∷ l) (taken_right (bytes_next column s a b c) n (a - 1) (b - 1) (columns_after column s a b c) (omega arith) ∙ bytes_beside s n (b - 1) a _ (inr (omega arith)))
 
   pub taken_unharmed : (s : List ℕ) (n a b : ℕ) (c : Columns) → n ≤ b + 1 → Unharmed n a b → taken_of column s n a b c ≡ bytes_of s n b
   taken_unharmed s n a b c h (inl d) = taken_left s n a b c h d
@@ -234,7 +234,7 @@ module _ (column : ℕ → ℕ → ℕ → Column) where
 pub taken_length : (column : ℕ → ℕ → ℕ → Column) (s : List ℕ) (n a b : ℕ) (c : Columns) → length (taken_of column s n a b c) ≡ n
 unfolding taken_of
 taken_length column s zero a b c = refl
-taken_length column s (suc n) a b c = ap suc (taken_length column _ n (a - 1) (b - 1) _)
+taken_length column s (suc n) a b c = ap suc (taken_length column (bytes_next column s a b c) n (a - 1) (b - 1) (columns_after column s a b c))
 
 module _ (column : ℕ → ℕ → ℕ → Column) (small : (x y c : ℕ) → (column x y c).byte < 256) where
   pub result_bytes : (s : List ℕ) (n a b : ℕ) (c : Columns) → a < length s → n ≤ a + 1 → Bytes (bytes_of (columns_bytes column s n a b c) n a)

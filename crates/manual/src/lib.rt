@@ -1,7 +1,9 @@
 // The types of the machine, its instructions and its answers. What each means is in specs/: document 01 as definitions.
 
+#![tactic(auto)]
+
 #[repr(C)]
-#[derive(Drop)]
+#[derive(Clone, Copy)]
 pub struct Machine {
     pub iar: u16,
     pub arr: u16,
@@ -13,7 +15,7 @@ pub struct Machine {
 }
 
 // The registers that instructions read and write by name; Work(i) is WR(4 + i).
-#[derive(Drop)]
+#[derive(Clone, Copy)]
 pub enum Register {
     Arr,
     Xr1,
@@ -24,7 +26,7 @@ pub enum Register {
 // ---- answers of step and run; specs/Numbers has each one's number
 
 // Why a call of step or run is refused at entry.
-#[derive(Drop)]
+#[derive(Clone, Copy)]
 pub enum Refusal {
     SizeRefused,
     BudgetRefused,
@@ -32,7 +34,7 @@ pub enum Refusal {
 }
 
 // Why an instruction stops.
-#[derive(Drop)]
+#[derive(Clone, Copy)]
 pub enum Stop {
     CutShort,
     OpcodeUnknown,
@@ -44,33 +46,33 @@ pub enum Stop {
 }
 
 // What stands in an instruction's way: nothing, or a stop.
-#[derive(Drop)]
+#[derive(Clone, Copy)]
 pub enum Way {
     Clear,
     Barred(Stop),
 }
 
-#[derive(Drop)]
+#[derive(Clone, Copy)]
 pub enum Answer {
     Executed,
     Refused(Refusal),
     Stopped(Stop),
 }
 
-#[derive(Drop)]
+#[derive(Clone, Copy)]
 pub struct Stepped {
     pub machine: Machine,
     pub answer: Answer,
 }
 
 // How a run ended, and its count of executed steps.
-#[derive(Drop)]
+#[derive(Clone, Copy)]
 pub struct Ended {
     pub answer: Answer,
     pub steps: u32,
 }
 
-#[derive(Drop)]
+#[derive(Clone, Copy)]
 pub struct Ran {
     pub machine: Machine,
     pub ended: Ended,
@@ -78,7 +80,7 @@ pub struct Ran {
 
 // ---- instructions
 
-#[derive(Drop)]
+#[derive(Clone, Copy)]
 pub enum Operation {
     Zaz,
     Az,
@@ -107,14 +109,14 @@ pub enum Operation {
     Svc,
 }
 
-#[derive(Drop)]
+#[derive(Clone, Copy)]
 pub enum Named {
     Known(Operation),
     Unknown,
 }
 
 // What an address is reckoned from.
-#[derive(Drop)]
+#[derive(Clone, Copy)]
 pub enum Base {
     Absent,
     Direct,
@@ -126,7 +128,7 @@ pub enum Base {
 }
 
 // Which opcodes a left digit has.
-#[derive(Drop)]
+#[derive(Clone, Copy)]
 pub enum Group {
     TwoAddress,
     OneAddress,
@@ -135,7 +137,7 @@ pub enum Group {
 }
 
 // What the left digit of an opcode gives.
-#[derive(Drop)]
+#[derive(Clone, Copy)]
 pub struct Form {
     pub length: u8,
     pub first: Base,
@@ -144,14 +146,14 @@ pub struct Form {
 }
 
 // An operand as it stands in the instruction: its base, and the address or displacement.
-#[derive(Drop)]
+#[derive(Clone, Copy)]
 pub struct Operand {
     pub base: Base,
     pub number: u16,
 }
 
 // An instruction as its bytes say it; next is the address after it.
-#[derive(Drop)]
+#[derive(Clone, Copy)]
 pub struct Instruction {
     pub operation: Operation,
     pub q: u8,
@@ -161,14 +163,14 @@ pub struct Instruction {
     pub next: u16,
 }
 
-#[derive(Drop)]
+#[derive(Clone, Copy)]
 pub enum Decoded {
     Found(Instruction),
     NotFound(Stop),
 }
 
 // An instruction with the addresses of its operands: what a rule and a leaf see. Addresses have the width of an index.
-#[derive(Drop)]
+#[derive(Clone, Copy)]
 pub struct Fields {
     pub q: u8,
     pub r: u8,
@@ -178,7 +180,7 @@ pub struct Fields {
 }
 
 // What ALC and SLC carry from column to column: the carry or borrow, and whether every result byte so far is zero.
-#[derive(Drop)]
+#[derive(Clone, Copy)]
 pub struct Columns {
     pub over: usize,
     pub clear: bool,
@@ -187,7 +189,7 @@ pub struct Columns {
 // ---- answers of the deck reader and writer
 
 // Why a deck is not read.
-#[derive(Drop)]
+#[derive(Clone, Copy)]
 pub enum DeckFault {
     SizeNotTheDecks,
     StatusNotAllowed,
@@ -199,27 +201,27 @@ pub enum DeckFault {
     BytesAfterEnd,
 }
 
-#[derive(Drop)]
+#[derive(Clone, Copy)]
 pub enum ReadAnswer {
     DeckRead,
     DeckRefused(DeckFault),
 }
 
-#[derive(Drop)]
+#[derive(Clone, Copy)]
 pub struct DeckOut {
     pub machine: Machine,
     pub answer: ReadAnswer,
 }
 
 // Why a deck is not written.
-#[derive(Drop)]
+#[derive(Clone, Copy)]
 pub enum WriteFault {
     SizeNotAllowed,
     StatusNotWritable,
     OutputShort,
 }
 
-#[derive(Drop)]
+#[derive(Clone, Copy)]
 pub enum WriteAnswer {
     // the deck's length
     DeckWritten(usize),
