@@ -1,4 +1,6 @@
 // What the leaves share: the machine inside a run, the range tests, the registers by name, one store of a byte, the status, and the ways a leaf ends.
+#![tactic(auto)]
+
 ghost use Rattle.std.specs.Prelude.{◌≡◌, Bool, true, cond, ◌+◌, ◌*◌, ◌/◌, ◌%◌, ◌<◌, ◌≤◌, length, get_or, set};
 ghost use Rattle.manual.specs.TheMachine.{size_allowed, set_order, order_of, turn_on, test_false};
 ghost use Rattle.manual.specs.Programs.{and_then};
@@ -13,7 +15,7 @@ ghost use Rattle.parts.specs.declared.End.TheVariants.{Gone};
 use manual::Columns;
 
 // The machine inside a run: its registers in one width, so that the loop packs and unpacks nothing.
-#[derive(Drop)]
+#[derive(Clone, Copy)]
 pub struct Core {
     pub iar: usize,
     pub arr: usize,
@@ -25,7 +27,7 @@ pub struct Core {
 }
 
 // How an inner step ended. It holds no value, so that the loop carries none: the Q and R bytes of a call are read again where the run ends.
-#[derive(Drop)]
+#[derive(Clone, Copy)]
 pub enum End {
     Gone,
     Short,
@@ -36,7 +38,7 @@ pub enum End {
     Called,
 }
 
-#[derive(Drop)]
+#[derive(Clone, Copy)]
 pub struct Went {
     pub core: Core,
     pub end: End,
@@ -81,6 +83,7 @@ pub fn is_gone(e: End) -> bool
 // ---- where an operand may lie
 
 // n bytes whose rightmost is at a.
+#[tactic(auto, unfolding(manual::specs::Formats::reach))]
 pub fn reach(size: usize, n: usize, a: usize) -> End
     ensures { result ≡ end_of (reach size n a) }
 {
@@ -94,6 +97,7 @@ pub fn reach(size: usize, n: usize, a: usize) -> End
 }
 
 // n bytes whose leftmost is at a.
+#[tactic(auto, unfolding(manual::specs::Formats::reach_right))]
 pub fn reach_right(size: usize, n: usize, a: usize) -> End
     ensures { result ≡ end_of (reach_right size n a) }
 {
@@ -107,6 +111,7 @@ pub fn reach_right(size: usize, n: usize, a: usize) -> End
 }
 
 // Operand 1 of n1 bytes, then operand 2 of n2.
+#[tactic(auto, unfolding(manual::specs::Programs::and_then))]
 pub fn reach_both(size: usize, n1: usize, a1: usize, n2: usize, a2: usize) -> End
     ensures { result ≡ end_of (and_then (reach size n1 a1) (reach size n2 a2)) }
 {
@@ -120,6 +125,7 @@ pub fn reach_both(size: usize, n1: usize, a1: usize, n2: usize, a2: usize) -> En
 // ---- the storage
 
 // 256 to 65,536 bytes, a multiple of 256.
+#[tactic(auto, unfolding(manual::specs::TheMachine::size_allowed))]
 pub fn size_allowed(n: usize) -> bool
     ensures { result ≡ size_allowed n }
 {
@@ -157,6 +163,7 @@ pub fn put_byte(s: &mut [u8], at: usize, v: u8)
 
 // ---- the status
 
+#[tactic(auto, unfolding(manual::specs::TheMachine::set_order))]
 pub fn set_order(o: usize, status: usize) -> usize
     requires { (status < 64) × (o < 8) }
     ensures { result ≡ set_order o status }
@@ -165,6 +172,7 @@ pub fn set_order(o: usize, status: usize) -> usize
 }
 
 // Equal, low or high: x against y, unsigned.
+#[tactic(auto, unfolding(manual::specs::TheMachine::order_of))]
 pub fn order_of(x: usize, y: usize) -> usize
     ensures { (result ≡ order_of x y) × (result < 8) }
 {
@@ -178,6 +186,7 @@ pub fn order_of(x: usize, y: usize) -> usize
 }
 
 // A sum's: the carry is binary overflow.
+#[tactic(auto, unfolding(manual::specs::Logical::sum_status), using(crate::proofs::Statuses::without_overflow, crate::proofs::Statuses::with_overflow))]
 pub fn sum_status(status: usize, c: Columns) -> usize
     requires { status < 64 }
     ensures { result ≡ sum_status status c }
@@ -196,6 +205,7 @@ pub fn sum_status(status: usize, c: Columns) -> usize
 }
 
 // A difference's: binary overflow stays.
+#[tactic(auto, unfolding(manual::specs::Logical::difference_status))]
 pub fn difference_status(status: usize, c: Columns) -> usize
     requires { status < 64 }
     ensures { result ≡ difference_status status c }
@@ -209,6 +219,7 @@ pub fn difference_status(status: usize, c: Columns) -> usize
     set_order(2, status)
 }
 
+#[tactic(auto, unfolding(manual::specs::TheMachine::turn_on))]
 pub fn with_test_false(status: usize) -> usize
     requires { status < 64 }
     ensures { result ≡ turn_on test_false status }
@@ -221,6 +232,7 @@ pub fn with_test_false(status: usize) -> usize
 
 // ---- the registers by their Q byte
 
+#[tactic(auto, unfolding(manual::specs::Registers::register_named))]
 pub fn register_of(c: Core, q: u8) -> usize
     ensures { result ≡ register_of (machine_of c) (register_named q) }
 {
@@ -244,6 +256,7 @@ fn work_of(c: Core, i: u8) -> usize
     }
 }
 
+#[tactic(auto, unfolding(manual::specs::Registers::register_named))]
 pub fn with_register(c: Core, q: u8, v: usize) -> Core
     ensures { machine_of result ≡ with_register (machine_of c) (register_named q) v }
 {
