@@ -1,4 +1,6 @@
 // Numbers that come back: what each answer is told as, by document 01's table. The runner, the examples and the host all tell by these.
+#![tactic(auto)]
+
 ghost use Rattle.std.specs.Prelude.{◌≡◌, ◌<◌};
 ghost use Rattle.manual.specs.Numbers.{answer_told, refusal_told, stop_told, fault_number, read_number, write_fault_number, write_told};
 
