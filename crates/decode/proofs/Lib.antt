@@ -1,3 +1,3 @@
-mod Tabled
-mod Rest
-mod Arms
+pub mod Tabled
+pub mod Rest
+pub mod Arms

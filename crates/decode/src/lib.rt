@@ -1,4 +1,6 @@
 // The decoder: the sixteen-entry table by the opcode's left digit, and the instruction at IAR, or a stop in the order 4, 5, 4, 6.
+#![tactic(auto)]
+
 ghost use Rattle.std.specs.Prelude.{◌≡◌, ◌+◌, ◌*◌, ◌<◌, ◌≤◌, T, length, get_or};
 ghost use Rattle.manual.specs.Formats.{form_of, width_of, allowed, is_index_or_work, is_sum_register, is_register, two_address};
 ghost use Rattle.manual.specs.declared.Named.TheVariants.{Known, Unknown};
@@ -12,7 +14,7 @@ use manual::{Base, Fields, Form, Group, Named, Operation};
 use parts::Core;
 
 // The stops hold nothing: one that held a value would cost the run's loop its registers.
-#[derive(Drop)]
+#[derive(Clone, Copy)]
 pub enum Fetched {
     Go(Operation, Fields),
     PastStorage,
@@ -231,6 +233,7 @@ fn is_register(q: u8) -> bool
     }
 }
 
+#[tactic(auto, unfolding(manual::specs::Formats::allowed))]
 fn allowed(op: Operation, q: u8) -> bool
     ensures { result ≡ allowed op q }
 {
@@ -266,6 +269,7 @@ fn allowed(op: Operation, q: u8) -> bool
 // ---- an instruction, once its opcode is known
 
 // One address.
+#[tactic(auto, unfolding(crate::specs::Fetching::single_of))]
 fn single(op: Operation, form: Form, c: Core, s: &[u8], at: usize) -> Fetched
     requires { Sound form × Within c × (at < length s.now) }
     ensures { result ≡ single_of op form c s.now at }
@@ -293,6 +297,7 @@ fn single(op: Operation, form: Form, c: Core, s: &[u8], at: usize) -> Fetched
 }
 
 // F0, F1, F2 and F4: the third byte counts from a base, and every Q byte is allowed.
+#[tactic(auto, unfolding(crate::specs::Fetching::third_of))]
 fn third(op: Operation, base: Base, c: Core, s: &[u8], at: usize) -> Fetched
     requires { (width_of base ≤ 1) × Within c × (at < length s.now) }
     ensures { result ≡ third_of op base c s.now at }
@@ -314,6 +319,7 @@ fn third(op: Operation, base: Base, c: Core, s: &[u8], at: usize) -> Fetched
 }
 
 // Of the operations of two addresses MVX alone refuses some Q bytes. The right digit is asked and not the operation, so that the loop keeps no call here.
+#[tactic(auto, unfolding(manual::specs::Formats::allowed), using(crate::proofs::Arms::others_allow))]
 fn pair_allows(right: u8, q: u8) -> bool
     ensures { result ≡ allows_named (get_or two_address right Unknown) q }
 {
@@ -324,6 +330,7 @@ fn pair_allows(right: u8, q: u8) -> bool
 }
 
 // Two addresses; the operation is the one that the right digit names.
+#[tactic(auto, unfolding(crate::specs::Fetching::double_of), using(crate::proofs::Arms::digit_allows))]
 fn double(right: u8, op: Operation, form: Form, c: Core, s: &[u8], at: usize) -> Fetched
     requires { (get_or two_address right Unknown ≡ Known op) × Sound form × Within c × (at < length s.now) }
     ensures { result ≡ double_of op form c s.now at }
@@ -373,6 +380,7 @@ fn pair_named(right: u8) -> Named
 }
 
 // An opcode that isn't named below: one of two addresses, or unknown.
+#[tactic(auto, using(crate::proofs::Arms::unnamed, crate::proofs::Arms::no_pair))]
 fn pair(opcode: u8, c: Core, s: &[u8], at: usize) -> Fetched
     requires { T (unlisted opcode) × Within c × (at < length s.now) }
     ensures { result ≡ fetched_of c (decode_opcode s.now at opcode) }
@@ -391,6 +399,7 @@ fn pair(opcode: u8, c: Core, s: &[u8], at: usize) -> Fetched
     }
 }
 
+#[tactic(auto, unfolding(manual::specs::Formats::form_of, manual::specs::Formats::named_of, manual::specs::Formats::first_base, manual::specs::Formats::allowed), using(crate::proofs::Arms::single_arm, crate::proofs::Arms::third_arm))]
 pub fn decode(c: Core, s: &[u8]) -> Fetched
     requires { Within c }
     ensures { result ≡ fetched_of c (decode_of s.now c.iar) }
