@@ -1,4 +1,4 @@
-mod Turns
-mod Fours
-mod TwoFields
-mod Rules
+pub mod Turns
+pub mod Fours
+pub mod TwoFields
+pub mod Ways

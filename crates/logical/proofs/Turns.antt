@@ -1,64 +1,50 @@
 -- MVC, ALC and SLC, turn by turn of a loop that goes by an index i. What carries it: what is left to do gives what the whole gives.
 use mathlib.Core.Path.{◌≡◌, refl}
-use mathlib.Core.Bool.{cond}
+use mathlib.Core.Bool.{Bool, cond, ◌&&◌}
 use mathlib.Core.List.{List}
-use Prim.Native.Nat.{ℕ, suc, ◌+◌, ◌-◌, ◌/◌, ◌<◌, ◌≤◌}
+use Prim.Native.Nat.{ℕ, suc, ◌+◌, ◌-◌, ◌/◌, ◌%◌, ◌<◌, ◌≤◌}
 use native.Mathlib.Decide.{dec_lt}
-use native.Mathlib.Nat.{sub-zero, sub-add-eq}
 use native.Mathlib.Omega.{arith}
-use lib.Dec.{ltb}
+use lib.Dec.{eqb, ltb}
 use lib.ListN.{get_or, set}
 use borrow.Author.Tests.{lt-ltb, le-ltb}
+use Rattle.manual.specs.declared.Machine.{Machine}
 use Rattle.manual.specs.declared.Columns.{Columns}
+use Rattle.manual.specs.Places.{state}
 use Rattle.manual.specs.Programs.{Prog, val, fin}
-use Rattle.manual.specs.Logical.{Column, copy, columns, subtracted}
+use Rattle.manual.specs.Logical.{Column, copy, columns, added, subtracted}
 use Rattle.manual.specs.Step.{Gives}
 use Rattle.manual.proofs.Sums.{bytes_next, columns_after}
 
--- what q gives from the storage t, p gives from s
-abbrev pub Leads : {A : Type 0} → Prog A → List ℕ → Prog A → List ℕ → Type 0
-Leads {A} p s q t = (v : A) (u : List ℕ) → Gives q t v u → Gives p s v u
+module _ {A : Type 0} where
+  -- what q gives from the storage t, p gives from s
+  pub record Leads (p : Prog A) (s : List ℕ) (q : Prog A) (t : List ℕ) : Type 0 where
+    pub gives : (v : A) (u : List ℕ) → Gives q t v u → Gives p s v u
 
 -- ---- MVC
 
-pub copy_start : (n a b : ℕ) (s : List ℕ) → Leads (copy n a b) s (copy (n - 0) (a - 0) (b - 0)) s
-copy_start n a b s v u g = simp sub-zero at g
+pub leads_from : {A : Type 0} (p : Prog A) (s : List ℕ) → Leads p s p s
+leads_from p s = record { gives = λ v u h. h }
 
-copy_one : (n a b : ℕ) (s : List ℕ) → Leads (copy (suc n) a b) s (copy n (a - 1) (b - 1)) (set s a (get_or s b 0))
-unfolding val fin copy
-copy_one n a b s v u g = g
+pub copy_start : (n a b k x y : ℕ) (s : List ℕ) → k ≡ n → x ≡ a → y ≡ b → Leads (copy n a b) s (copy k x y) s
+copy_start n a b k x y s e f g = record { gives = rw (e, f, g) (λ v u h. h) }
 
-pub copy_turn : (n i a b : ℕ) (s : List ℕ) → i < n
-    → Leads (copy (n - i) (a - i) (b - i)) s (copy (n - (i + 1)) (a - (i + 1)) (b - (i + 1))) (set s (a - i) (get_or s (b - i) 0))
-copy_turn n i a b s h =
-    let e : n - i ≡ suc (n - (i + 1)) = omega arith in
-    rw (e, sub-add-eq a i 1, sub-add-eq b i 1) (copy_one (n - (i + 1)) (a - i) (b - i) s)
+module _ (p : Prog (Unit {0})) (r : List ℕ) where
+  copy_one : (n a b : ℕ) (s : List ℕ) → Leads p r (copy (suc n) a b) s → Leads p r (copy n (a - 1) (b - 1)) (set s a (get_or s b 0))
+  unfolding val fin copy
+  copy_one n a b s h = record { gives = λ v u g. h.gives v u g }
 
-pub copy_end : (n i a b : ℕ) (s : List ℕ) → n ≤ i → Gives (copy (n - i) a b) s tt s
-unfolding val fin copy
-copy_end n i a b s h = let e : n - i ≡ 0 = omega arith in rw (e, copy) (λ m. (refl, refl))
+  pub copy_turn : (n a b : ℕ) (t : List ℕ) (k x y : ℕ) (s : List ℕ) → Leads p r (copy k x y) s → 0 < k → n ≡ k - 1 → a ≡ x - 1 → b ≡ y - 1 → t ≡ set s x (get_or s y 0)
+      → Leads p r (copy n a b) t
+  copy_turn n a b t k x y s h l e f g w =
+      let i : k ≡ suc n = omega arith in
+      rw (f, g, w) (copy_one n x y s (rw i at h))
+
+  pub copy_end : (k x y : ℕ) (s : List ℕ) → Leads p r (copy k x y) s → k ≡ 0 → (m : Machine) → fin p (state m r) ≡ state m s
+  unfolding val fin copy
+  copy_end k x y s h e m = ((rw (e, copy) at h.gives) tt s (λ m. (refl, refl)) m).1
 
 -- ---- ALC and SLC
-
-module _ (column : ℕ → ℕ → ℕ → Column) where
-  pub columns_start : (n a b : ℕ) (c : Columns) (s : List ℕ) → Leads (columns column n a b c) s (columns column (n - 0) (a - 0) (b - 0) c) s
-  columns_start n a b c s v u g = simp sub-zero at g
-
-  pub columns_one : (n a b : ℕ) (c : Columns) (s : List ℕ)
-      → Leads (columns column (suc n) a b c) s (columns column n (a - 1) (b - 1) (columns_after column s a b c)) (bytes_next column s a b c)
-  unfolding val fin columns
-  columns_one n a b c s v u g = g
-
-  pub columns_turn : (n i a b : ℕ) (c d : Columns) (s t : List ℕ) → i < n
-      → d ≡ columns_after column s (a - i) (b - i) c → t ≡ bytes_next column s (a - i) (b - i) c
-      → Leads (columns column (n - i) (a - i) (b - i) c) s (columns column (n - (i + 1)) (a - (i + 1)) (b - (i + 1)) d) t
-  columns_turn n i a b c d s t h k l =
-      let e : n - i ≡ suc (n - (i + 1)) = omega arith in
-      rw (e, sub-add-eq a i 1, sub-add-eq b i 1, k, l) (columns_one (n - (i + 1)) (a - i) (b - i) c s)
-
-  pub columns_end : (n i a b : ℕ) (c : Columns) (s : List ℕ) → n ≤ i → Gives (columns column (n - i) a b c) s c s
-  unfolding val fin columns
-  columns_end n i a b c s h = let e : n - i ≡ 0 = omega arith in rw (e, columns) (λ m. (refl, refl))
 
 -- the borrow of a column, as the code reckons it from the difference that it holds 256 above
 pub borrowed : (t x y c : ℕ) → t ≡ x + 256 - (y + c) → t < 512 → 1 - t / 256 ≡ (subtracted x y c).over
@@ -67,6 +53,46 @@ borrowed t x y c h k = go (dec_lt x (y + c))
     go : Dec (x < y + c) → 1 - t / 256 ≡ cond (ltb x (y + c)) 1 0
     go (yes e) = rw (lt-ltb x (y + c) e) (omega arith)
     go (no e) = let f : y + c ≤ x = omega arith in rw (le-ltb x (y + c) f) (omega arith)
+
+module _ (p : Prog Columns) (r : List ℕ) where
+  columns_one : (column : ℕ → ℕ → ℕ → Column) (n x y : ℕ) (c : Columns) (s : List ℕ)
+      → Leads p r (columns column (suc n) x y c) s → Leads p r (columns column n (x - 1) (y - 1) (columns_after column s x y c)) (bytes_next column s x y c)
+  unfolding val fin columns
+  columns_one column n x y c s h = record { gives = λ v u g. h.gives v u g }
+
+  columns_turn : (column : ℕ → ℕ → ℕ → Column) (n a b : ℕ) (d : Columns) (t : List ℕ) (k x y : ℕ) (c : Columns) (s : List ℕ)
+      → Leads p r (columns column k x y c) s → 0 < k → n ≡ k - 1 → a ≡ x - 1 → b ≡ y - 1 → d ≡ columns_after column s x y c → t ≡ bytes_next column s x y c
+      → Leads p r (columns column n a b d) t
+  columns_turn column n a b d t k x y c s h l e f g u v =
+      let i : k ≡ suc n = omega arith in
+      rw (f, g, u, v) (columns_one column n x y c s (rw i at h))
+
+  pub add_turn : (n a b o : ℕ) (z : Bool) (t : List ℕ) (k x y c : ℕ) (w : Bool) (s : List ℕ)
+      → Leads p r (columns added k x y (record { over = c; clear = w })) s → 0 < k → n ≡ k - 1 → a ≡ x - 1 → b ≡ y - 1
+      → o ≡ (get_or s x 0 + get_or s y 0 + c) / 256 → z ≡ (w && eqb ((get_or s x 0 + get_or s y 0 + c) % 256) 0)
+      → t ≡ set s x ((get_or s x 0 + get_or s y 0 + c) % 256)
+      → Leads p r (columns added n a b (record { over = o; clear = z })) t
+  add_turn n a b o z t k x y c w s h l e f g i j q = columns_turn added n a b _ t k x y _ s h l e f g (rw (i, j)) q
+
+  pub subtract_turn : (n a b o : ℕ) (z : Bool) (t : List ℕ) (k x y c : ℕ) (w : Bool) (s : List ℕ)
+      → Leads p r (columns subtracted k x y (record { over = c; clear = w })) s → 0 < k → n ≡ k - 1 → a ≡ x - 1 → b ≡ y - 1
+      → get_or s x 0 + 256 - (get_or s y 0 + c) < 512
+      → o ≡ 1 - (get_or s x 0 + 256 - (get_or s y 0 + c)) / 256 → z ≡ (w && eqb ((get_or s x 0 + 256 - (get_or s y 0 + c)) % 256) 0)
+      → t ≡ set s x ((get_or s x 0 + 256 - (get_or s y 0 + c)) % 256)
+      → Leads p r (columns subtracted n a b (record { over = o; clear = z })) t
+  subtract_turn n a b o z t k x y c w s h l e f g u i j q =
+      columns_turn subtracted n a b _ t k x y _ s h l e f g (rw (i, j, borrowed _ (get_or s x 0) (get_or s y 0) c refl u)) q
+
+  pub columns_start : (column : ℕ → ℕ → ℕ → Column) (n a b : ℕ) (c : Columns) (o : ℕ) → o ≡ c.over → Leads (columns column n a b c) r (columns column n a b (record { over = o; clear = c.clear })) r
+  columns_start column n a b c o e = rw e (leads_from (columns column n a b c) r)
+
+  pub columns_end_val : (column : ℕ → ℕ → ℕ → Column) (k x y : ℕ) (c : Columns) (s : List ℕ) → Leads p r (columns column k x y c) s → k ≡ 0 → (m : Machine) → val p (state m r) ≡ c
+  unfolding val fin columns
+  columns_end_val column k x y c s h e m = ((rw (e, columns) at h.gives) c s (λ m. (refl, refl)) m).0
+
+  pub columns_end_fin : (column : ℕ → ℕ → ℕ → Column) (k x y : ℕ) (c : Columns) (s : List ℕ) → Leads p r (columns column k x y c) s → k ≡ 0 → (m : Machine) → fin p (state m r) ≡ state m s
+  unfolding val fin columns
+  columns_end_fin column k x y c s h e m = ((rw (e, columns) at h.gives) c s (λ m. (refl, refl)) m).1
 
 -- what isn't borrowed, twice
 pub unborrowed : (up : ℕ) → up ≤ 1 → 1 - (1 - up) ≡ up

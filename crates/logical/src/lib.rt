@@ -1,4 +1,6 @@
 // MVC, CLC, ALC, SLC, and TBN, TBF, SBN, SBF, MVI, CLI, SLI: each does what its rule says.
+#![tactic(auto)]
+
 ghost use Rattle.std.specs.Prelude.{◌≡◌, ◌⊎◌, ◌↔◌, true, ◌+◌, ◌-◌, ◌*◌, ◌/◌, ◌%◌, ◌<◌, ◌≤◌, length, set};
 ghost use Rattle.manual.specs.TheMachine.{order_of};
 ghost use Rattle.manual.specs.Values.{bytes_of, number};
@@ -13,6 +15,7 @@ use parts::{Core, Went};
 // ---- MVC
 
 // n bytes from the right, one by one.
+#[tactic(auto, using(crate::proofs::Turns::copy_start, crate::proofs::Turns::copy_turn, crate::proofs::Turns::copy_end))]
 fn copy_left(s: &mut [u8], a: usize, b: usize, n: usize)
     requires { ((a < length s.old) × (n ≤ a + 1)) × ((b < length s.old) × (n ≤ b + 1)) }
     ensures { Gives (copy n a b) s.old tt s.new }
@@ -25,6 +28,7 @@ fn copy_left(s: &mut [u8], a: usize, b: usize, n: usize)
     }
 }
 
+#[tactic(auto, unfolding(manual::specs::Logical::mvc), using(crate::proofs::Ways::leaves))]
 pub fn mvc(c: Core, s: &mut [u8], f: Fields) -> Went
     ensures { LeafDoes c s.old f (mvc f) result s.new }
 {
@@ -58,6 +62,7 @@ fn same(s: &[u8], a: usize, b: usize, n: usize) -> bool
 }
 
 // The order of two fields: the leftmost byte that differs decides.
+#[tactic(auto, using(crate::proofs::TwoFields::same_turn, crate::proofs::TwoFields::same_none, crate::proofs::TwoFields::same_left, crate::proofs::TwoFields::same_whole, manual::proofs::Compared::order_equal))]
 fn scan(s: &[u8], a: usize, b: usize, n: usize) -> usize
     requires { ((a < length s.now) × (n ≤ a + 1)) × ((b < length s.now) × (n ≤ b + 1)) }
     ensures { (result ≡ order_of (number (bytes_of s.now n a)) (number (bytes_of s.now n b))) × (result < 8) }
@@ -74,6 +79,7 @@ fn scan(s: &[u8], a: usize, b: usize, n: usize) -> usize
     1
 }
 
+#[tactic(auto, using(manual::proofs::Compared::order_equal))]
 fn field_order(s: &[u8], a: usize, b: usize, n: usize) -> usize
     requires { ((a < length s.now) × (n ≤ a + 1)) × ((b < length s.now) × (n ≤ b + 1)) }
     ensures { (result ≡ order_of (number (bytes_of s.now n a)) (number (bytes_of s.now n b))) × (result < 8) }
@@ -84,6 +90,7 @@ fn field_order(s: &[u8], a: usize, b: usize, n: usize) -> usize
     scan(s, a, b, n)
 }
 
+#[tactic(auto, unfolding(manual::specs::Logical::clc), using(crate::proofs::Ways::leaves))]
 pub fn clc(c: Core, s: &[u8], f: Fields) -> Went
     requires { Within c }
     ensures { LeafDoes c s.now f (clc f) result s.now }
@@ -123,6 +130,7 @@ fn four_of(w: u8, x: u8, y: u8, z: u8) -> usize
 }
 
 // The number of the four bytes whose rightmost is at a.
+#[tactic(auto, using(crate::proofs::Fours::number_four))]
 fn four(s: &[u8], a: usize) -> usize
     requires { (a < length s.now) × (4 ≤ a + 1) }
     ensures { (result ≡ number (bytes_of s.now 4 a)) × (result < 4294967296) }
@@ -157,6 +165,7 @@ fn by_fours(a: usize, b: usize, n: usize) -> usize
     0
 }
 
+#[tactic(auto, using(crate::proofs::Turns::columns_start, crate::proofs::Fours::add_fours_turn, crate::proofs::Turns::columns_end_val, crate::proofs::Turns::columns_end_fin))]
 fn add_fours(s: &mut [u8], a: usize, b: usize, n: usize) -> Columns
     requires { (((a < length s.old) × (4 * n ≤ a + 1)) × ((b < length s.old) × (4 * n ≤ b + 1))) × ((n ≡ 0) ⊎ ((b ≤ a) ⊎ (a + 4 ≤ b))) }
     ensures { Gives (columns added (4 * n) a b fresh) s.old result s.new × (result.over ≤ 1) }
@@ -179,6 +188,7 @@ fn add_fours(s: &mut [u8], a: usize, b: usize, n: usize) -> Columns
 }
 
 // The columns of n that are left after the first ones.
+#[tactic(auto, using(crate::proofs::Turns::leads_from, crate::proofs::Turns::add_turn, crate::proofs::Turns::columns_end_val, crate::proofs::Turns::columns_end_fin))]
 fn add_ones(s: &mut [u8], a: usize, b: usize, n: usize, from: usize, c: Columns) -> Columns
     requires { (((a < length s.old) × (n ≤ a + 1)) × ((b < length s.old) × (n ≤ b + 1))) × ((from ≤ n) × (c.over ≤ 1)) }
     ensures { Gives (columns added (n - from) (a - from) (b - from) c) s.old result s.new }
@@ -209,6 +219,7 @@ fn add_left(s: &mut [u8], a: usize, b: usize, n: usize) -> Columns
     add_ones(s, a, b, n, 4 * m, c)
 }
 
+#[tactic(auto, unfolding(manual::specs::Logical::alc), using(crate::proofs::Ways::leaves))]
 pub fn alc(c: Core, s: &mut [u8], f: Fields) -> Went
     requires { Within c }
     ensures { LeafDoes c s.old f (alc f) result s.new }
@@ -223,6 +234,7 @@ pub fn alc(c: Core, s: &mut [u8], f: Fields) -> Went
 }
 
 // The sum of operand 1, of what operand 2 lacks of all ones, and of `up`, as in a column's difference.
+#[tactic(auto, using(crate::proofs::Fours::lent_start, crate::proofs::Fours::lent_is, crate::proofs::Fours::subtract_fours_turn, crate::proofs::Turns::columns_end_val, crate::proofs::Turns::columns_end_fin))]
 fn subtract_fours(s: &mut [u8], a: usize, b: usize, n: usize) -> Columns
     requires { (((a < length s.old) × (4 * n ≤ a + 1)) × ((b < length s.old) × (4 * n ≤ b + 1))) × ((n ≡ 0) ⊎ ((b ≤ a) ⊎ (a + 4 ≤ b))) }
     ensures { Gives (columns subtracted (4 * n) a b fresh) s.old result s.new × (result.over ≤ 1) }
@@ -244,6 +256,7 @@ fn subtract_fours(s: &mut [u8], a: usize, b: usize, n: usize) -> Columns
     }
 }
 
+#[tactic(auto, using(crate::proofs::Turns::columns_start, crate::proofs::Turns::subtract_turn, crate::proofs::Turns::columns_end_val, crate::proofs::Turns::columns_end_fin))]
 fn subtract_ones(s: &mut [u8], a: usize, b: usize, n: usize, from: usize, c: Columns) -> Columns
     requires { (((a < length s.old) × (n ≤ a + 1)) × ((b < length s.old) × (n ≤ b + 1))) × ((from ≤ n) × (c.over ≤ 1)) }
     ensures { Gives (columns subtracted (n - from) (a - from) (b - from) c) s.old result s.new }
@@ -274,6 +287,7 @@ fn subtract_left(s: &mut [u8], a: usize, b: usize, n: usize) -> Columns
     subtract_ones(s, a, b, n, 4 * m, c)
 }
 
+#[tactic(auto, unfolding(manual::specs::Logical::slc), using(crate::proofs::Ways::leaves))]
 pub fn slc(c: Core, s: &mut [u8], f: Fields) -> Went
     requires { Within c }
     ensures { LeafDoes c s.old f (slc f) result s.new }
@@ -289,6 +303,7 @@ pub fn slc(c: Core, s: &mut [u8], f: Fields) -> Went
 
 // ---- one byte, with Q as a mask or as the other byte
 
+#[tactic(auto, unfolding(manual::specs::Immediate::tbn), using(crate::proofs::Ways::leaves))]
 pub fn tbn(c: Core, s: &[u8], f: Fields) -> Went
     requires { Within c }
     ensures { LeafDoes c s.now f (tbn f) result s.now }
@@ -304,6 +319,7 @@ pub fn tbn(c: Core, s: &[u8], f: Fields) -> Went
     parts::stopped(c, end)
 }
 
+#[tactic(auto, unfolding(manual::specs::Immediate::tbf), using(crate::proofs::Ways::leaves))]
 pub fn tbf(c: Core, s: &[u8], f: Fields) -> Went
     requires { Within c }
     ensures { LeafDoes c s.now f (tbf f) result s.now }
@@ -319,6 +335,7 @@ pub fn tbf(c: Core, s: &[u8], f: Fields) -> Went
     parts::stopped(c, end)
 }
 
+#[tactic(auto, unfolding(manual::specs::Immediate::sbn), using(crate::proofs::Ways::leaves))]
 pub fn sbn(c: Core, s: &mut [u8], f: Fields) -> Went
     ensures { LeafDoes c s.old f (sbn f) result s.new }
 {
@@ -332,6 +349,7 @@ pub fn sbn(c: Core, s: &mut [u8], f: Fields) -> Went
     parts::stopped(c, end)
 }
 
+#[tactic(auto, unfolding(manual::specs::Immediate::sbf), using(crate::proofs::Ways::leaves))]
 pub fn sbf(c: Core, s: &mut [u8], f: Fields) -> Went
     ensures { LeafDoes c s.old f (sbf f) result s.new }
 {
@@ -345,6 +363,7 @@ pub fn sbf(c: Core, s: &mut [u8], f: Fields) -> Went
     parts::stopped(c, end)
 }
 
+#[tactic(auto, unfolding(manual::specs::Immediate::mvi), using(crate::proofs::Ways::leaves))]
 pub fn mvi(c: Core, s: &mut [u8], f: Fields) -> Went
     ensures { LeafDoes c s.old f (mvi f) result s.new }
 {
@@ -357,6 +376,7 @@ pub fn mvi(c: Core, s: &mut [u8], f: Fields) -> Went
     parts::stopped(c, end)
 }
 
+#[tactic(auto, unfolding(manual::specs::Immediate::cli), using(crate::proofs::Ways::leaves))]
 pub fn cli(c: Core, s: &[u8], f: Fields) -> Went
     requires { Within c }
     ensures { LeafDoes c s.now f (cli f) result s.now }
@@ -370,6 +390,7 @@ pub fn cli(c: Core, s: &[u8], f: Fields) -> Went
     parts::stopped(c, end)
 }
 
+#[tactic(auto, unfolding(manual::specs::Immediate::sli), using(crate::proofs::Ways::leaves))]
 pub fn sli(c: Core, s: &mut [u8], f: Fields) -> Went
     requires { Within c }
     ensures { LeafDoes c s.old f (sli f) result s.new }
