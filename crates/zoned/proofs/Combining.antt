@@ -7,7 +7,7 @@ use native.Mathlib.Decide.{dec_le}
 use native.Mathlib.Nat.{zero-mod, add-mod_right, mod-eq_of_lt, div-eq_of_lt, div-eq_of_lt-le}
 use native.Mathlib.Omega.{arith}
 use lib.Dec.{eqb, leb}
-use lib.IntN.{◌+ℤ◌, ◌-ℤ◌}
+use lib.IntN.{ℤ, ◌+ℤ◌, ◌-ℤ◌}
 use lib.ListN.{length, get_or, replicate}
 use borrow.Author.Tests.{le-leb, lt-leb, leb-true, leb-false, eq-eqb, ne_eqb}
 use Rattle.manual.specs.Values.{bytes_of, digit, zone, size, value, all_digits, cut, left_minus}
@@ -19,7 +19,7 @@ use Rattle.zoned.proofs.Fields.{field_put}
 use Rattle.zoned.proofs.Summing.{size_below, copy_size, copy_good}
 use Rattle.zoned.specs.declared.Take.TheVariants.{Plain, Nines}
 use Rattle.zoned.specs.Working.{Ready, Field, Operands, sum_of, round_of, sign_put, finished, signed_sum, Left}
-use Rattle.zoned.proofs.Signs.{add_alike, add_unlike, add_other, op_signed}
+use Rattle.zoned.proofs.Signs.{add_alike, add_unlike, add_other, op_signed, same_sign, other_sign}
 use Rattle.zoned.proofs.Settling.{settled}
 
 -- ---- two fields of digits
@@ -178,9 +178,6 @@ module _ (s : List ℕ) (q a1 a2 status : ℕ) (ready : Ready s q a1 a2 status) 
     put_size : size (bytes_of t (l1 q) a1) ≡ size (bytes_of d (l1 q) 30)
     put_size = size_read t (l1 q) a1 (size (bytes_of d (l1 q) 30)) put_digit ∙ mod-eq_of_lt (size_below d (l1 q) 30 copy_digits)
 
-    pub put_inside : a1 < length t
-    put_inside = rw (f, written_length) ready.inside_one
-
     pub put_zoned_lem : (u : List ℕ) → u ≡ zoned_bytes t (l1 q) a1 false (size (bytes_of t (l1 q) a1)) → u ≡ zoned_bytes s (l1 q) a1 false (size (bytes_of d (l1 q) 30))
     put_zoned_lem u h =
         h ∙ ap (λ (k : ℕ). zoned_bytes t (l1 q) a1 false k) put_size ∙ ap (λ (v : List ℕ). zoned_bytes v (l1 q) a1 false (size (bytes_of d (l1 q) 30))) f ∙
@@ -204,3 +201,58 @@ module _ (s : List ℕ) (q a1 a2 status : ℕ) (ready : Ready s q a1 a2 status) 
   unfolding value
   exact less g1 g2 h i j k =
       rw (minus_read s (l1 q) a1 (omega arith), minus_read s (l2 q) a2 (omega arith), ← i, ← j, ← k, copy_is) (op_signed less g1 g2 (size (bytes_of s (l1 q) a1)) (size (bytes_of s (l2 q) a2)))
+
+-- ---- by the calls' promises: k, n, m and l are what the calls of l2 and l1 answer
+
+module _ (s : List ℕ) (q a1 a2 status : ℕ) (ready : Ready s q a1 a2 status) (byte : q < 256) (d : List ℕ) (k : ℕ)
+    (e : d ≡ written (replicate 31 0) k 30 (λ j. get_or s (a2 - j) 0)) (two : k ≡ l2 q) where
+  whole : d ≡ written (replicate 31 0) (l2 q) 30 (λ j. get_or s (a2 - j) 0)
+  whole = rw two at e
+
+  -- ZAZ
+  module _ (t : List ℕ) (n : ℕ) (f : t ≡ written s n a1 (λ j. get_or d (30 - j) 0)) (one : n ≡ l1 q) where
+    put : t ≡ written s (l1 q) a1 (λ j. get_or d (30 - j) 0)
+    put = rw one at f
+
+    pub second_good : (m : ℕ) → m ≡ l1 q → all_digits (bytes_of t m a1) ≡ true
+    second_good m o = rw o (put_good s q a1 a2 status ready byte d whole t put)
+
+    module _ (u : List ℕ) (m : ℕ) (h : u ≡ zoned_bytes t m a1 false (size (bytes_of t m a1))) (o : m ≡ l1 q) where
+      zoned : u ≡ zoned_bytes s (l1 q) a1 false (size (bytes_of d (l1 q) 30))
+      zoned = put_zoned_lem s q a1 a2 status ready byte d whole t put u (rw o at h)
+
+      pub second_zoned : (l : ℕ) → l ≡ l1 q → all_digits (bytes_of u l a1) ≡ true
+      second_zoned l i = rw i (field_put s (l1 q) a1 _ u ready.inside_one ready.fits_one zoned).digits
+
+      pub second_left : (l r : ℕ) (g z : Bool) (v : List ℕ) → z ≡ eqb (size (bytes_of u l a1)) 0 → l ≡ l1 q → g ≡ eqb (get_or s a2 0 / 16) 13
+          → (r ≡ finished g false z status) → v ≡ sign_put g z u a1 → Left s (l1 q) a1 status (value (bytes_of s (l2 q) a2)) r v
+      second_left l r g z v p i j x y =
+          let zero = zero_told s (l1 q) a1 _ u z ready.inside_one ready.fits_one zoned (rw i at p) in
+          zaz_left s q a1 a2 status ready byte d whole g z u v r j zoned zero x y
+
+  -- AZ and SZ
+  module _ (good : all_digits (bytes_of s (l1 q) a1) ≡ true) (t : List ℕ) (n : ℕ) (f : t ≡ zoned_bytes s n a1 false (size (bytes_of s n a1))) (one : n ≡ l1 q) where
+    zones : t ≡ zoned_bytes s (l1 q) a1 false (size (bytes_of s (l1 q) a1))
+    zones = rw one at f
+
+    pub both_operands : (m : ℕ) → m ≡ l1 q → Operands t m a1 d
+    both_operands m o = rw o (operands s q a1 a2 status ready byte d whole good t zones)
+
+    module _ (less g1 g2 : Bool) (i : g1 ≡ eqb (get_or s a1 0 / 16) 13) (j : g2 ≡ eqb (get_or s a2 0 / 16) 13) where
+      abbrev exactly : ℤ
+      exactly = cond less ◌-ℤ◌ ◌+ℤ◌ (value (bytes_of s (l1 q) a1)) (value (bytes_of s (l2 q) a2))
+
+      sign_left : (h : Bool) → not (beq g2 less) ≡ h → (m r : ℕ) (v : List ℕ) → m ≡ l1 q → Left t m a1 status (signed_sum g1 h t m a1 d) r v → Left s (l1 q) a1 status exactly r v
+      sign_left h x m r v o l =
+          rw (exact s q a1 a2 status ready byte d whole less g1 g2 h i j x)
+          (zone_left s (l1 q) a1 ready.inside_one ready.fits_one good t zones status g1 h d r v (rw o at l))
+
+      pub sum_all : (m r : ℕ) (v : List ℕ) → Left t m a1 status (signed_sum g1 g1 t m a1 d) r v → m ≡ l1 q → beq g1 (not (beq g2 less)) ≡ true → Left s (l1 q) a1 status exactly r v
+      sum_all m r v l o x = sign_left g1 (same_sign g1 _ x) m r v o l
+
+      pub difference_all : (m r : ℕ) (v : List ℕ) → Left t m a1 status (signed_sum g1 (not g1) t m a1 d) r v → m ≡ l1 q → beq g1 (not (beq g2 less)) ≡ false
+          → Left s (l1 q) a1 status exactly r v
+      difference_all m r v l o x = sign_left (not g1) (other_sign g1 _ x) m r v o l
+
+  pub both_short : (m l : ℕ) → m ≡ l1 q → l ≡ l2 q → size (bytes_of d m 30) < 10 ^ l
+  both_short m l o p = rw (o, p) (copy_short s q a1 a2 status ready byte d whole)

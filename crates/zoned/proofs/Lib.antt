@@ -1,7 +1,8 @@
-mod Fields
-mod Summing
-mod Carrying
-mod Signs
-mod Settling
-mod Combining
-mod Ways
+pub mod Fields
+pub mod Summing
+pub mod Carrying
+pub mod Going
+pub mod Signs
+pub mod Settling
+pub mod Combining
+pub mod Ways

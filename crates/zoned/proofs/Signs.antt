@@ -32,6 +32,7 @@ add_less x zero h = ap pos (omega arith)
 add_less x (suc y) h = simp (le-ltb x (suc y) h)
 
 add_more : (x y : ℕ) → x < y → pos x +ℤ neg_ℤ (pos y) ≡ neg_ℤ (pos (y - x))
+add_more x zero h = elim h [ ]
 add_more x (suc y) h =
     let e : suc y - x ≡ suc (suc y - suc x) = omega arith in
     simp (lt-ltb x (suc y) h, e)

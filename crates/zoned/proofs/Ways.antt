@@ -19,20 +19,13 @@ use Rattle.manual.specs.Zoned.{l1, l2, zoned_reach, put_result, zaz, combine}
 use Rattle.manual.specs.Step.{ended, moved, given, did}
 use Rattle.manual.proofs.Running.{from, did_from, from_bind, val_leftward, fin_leftward, both_clear, reach_clear}
 use Rattle.manual.proofs.ZonedRead.{put_left}
+use Rattle.parts.specs.declared.Core.{Core}
 use Rattle.parts.specs.declared.End.{End}
-use Rattle.parts.specs.Inside.{end_of, is_gone, answer_at}
-use Rattle.parts.proofs.Reaching.{Told, gone_clear, end_both, reach_told, both_told, stops, goes, is_clear}
+use Rattle.parts.specs.declared.End.TheVariants.{Gone}
+use Rattle.parts.specs.declared.Went.{Went}
+use Rattle.parts.specs.Inside.{machine_of, moved_to, end_of, is_gone, answer_at, LeafDoes}
+use Rattle.parts.proofs.Reaching.{Told, reach_told, both_told, stops, goes, is_clear}
 use Rattle.zoned.specs.Working.{zaz_way, combine_way, Ready, Left}
-
--- ---- one test after another
-
-module _ (v w : Way) (e : End) (h : e ≡ end_of v) where
-  pub ends_first : is_gone e ≡ false → e ≡ end_of (and_then v w)
-  ends_first g =
-      h ∙ sym (end_both v w ∙ ap (λ (b : Bool). cond b (end_of w) (end_of v)) (sym (gone_clear v) ∙ sym (ap is_gone h) ∙ g))
-
-  pub ends_second : is_gone e ≡ true → (d : End) → d ≡ end_of w → d ≡ end_of (and_then v w)
-  ends_second g d k = k ∙ sym (end_both v w ∙ ap (λ (b : Bool). cond b (end_of w) (end_of v)) (is_clear v e h g))
 
 -- ---- what a clear way tells
 
@@ -67,14 +60,20 @@ ready s q a1 a2 status below e =
       status_small = below;
     }
 
-module _ (s : List ℕ) (q a1 a2 status : ℕ) (below : status < 64) (e : End) where
-  pub zaz_ready : e ≡ end_of (zaz_way s q a1 a2) → is_gone e ≡ true → Ready s q a1 a2 status
-  zaz_ready h g = ready s q a1 a2 status below (is_clear (zaz_way s q a1 a2) e h g)
+-- the premises stand as the calls' promises: b is the test's answer
+module _ (s : List ℕ) (q a1 a2 status : ℕ) (e : End) (b : Bool) where
+  pub zaz_ready : status < 64 → e ≡ end_of (zaz_way s q a1 a2) → b ≡ is_gone e → b ≡ true → Ready s q a1 a2 status
+  zaz_ready below h g t = ready s q a1 a2 status below (is_clear (zaz_way s q a1 a2) e h (sym g ∙ t))
 
-  pub combine_ready : e ≡ end_of (combine_way s q a1 a2) → is_gone e ≡ true → Ready s q a1 a2 status × (all_digits (bytes_of s (l1 q) a1) ≡ true)
-  combine_ready h g =
-      let k = both_clear (zaz_way s q a1 a2) (digits_of (bytes_of s (l1 q) a1)) (is_clear (combine_way s q a1 a2) e h g) in
-      (ready s q a1 a2 status below k.0, digits_good (bytes_of s (l1 q) a1) k.1)
+  combine_clear : e ≡ end_of (combine_way s q a1 a2) → b ≡ is_gone e → b ≡ true
+      → (clear (zaz_way s q a1 a2) ≡ true) × (clear (digits_of (bytes_of s (l1 q) a1)) ≡ true)
+  combine_clear h g t = both_clear (zaz_way s q a1 a2) (digits_of (bytes_of s (l1 q) a1)) (is_clear (combine_way s q a1 a2) e h (sym g ∙ t))
+
+  pub combine_ready : status < 64 → e ≡ end_of (combine_way s q a1 a2) → b ≡ is_gone e → b ≡ true → Ready s q a1 a2 status
+  combine_ready below h g t = ready s q a1 a2 status below (combine_clear h g t).0
+
+  pub combine_digits : e ≡ end_of (combine_way s q a1 a2) → b ≡ is_gone e → b ≡ true → all_digits (bytes_of s (l1 q) a1) ≡ true
+  combine_digits h g t = digits_good (bytes_of s (l1 q) a1) (combine_clear h g t).1
 
 -- ---- the rules, with all that stands in their way in front
 
@@ -134,20 +133,22 @@ module _ (m : Machine) (s : List ℕ) (f : Fields) where
     leaf_goes : is_gone e ≡ true → (k : ℕ) (t : List ℕ) → Left s (l1 f.q) f.a1 m.status x k t → ended (moved m f.next k) Executed t ≡ did m s rule
     leaf_goes g k t l = rw (l.storage, l.status_after) (sym (behind ∙ goes m s w (put_result f x (given m s)) (state m s) e h g ∙ put_left m s f x))
 
-  module _ (e : End) where
-    pub zaz_stops : e ≡ end_of (zaz_way s f.q f.a1 f.a2) → is_gone e ≡ false → ended m (answer_at e f.q f.r) s ≡ did m s (zaz f)
-    zaz_stops h g = leaf_stops (zaz f) _ _ (zaz_told s f.q f.a1 f.a2) (zaz_behind m s f) e h g
+-- the same with the calls' promises for premises: b is the test's answer, g what is returned
+module _ (c : Core) (s : List ℕ) (f : Fields) (e : End) (b : Bool) where
+  pub zaz_stops : e ≡ end_of (zaz_way s f.q f.a1 f.a2) → b ≡ is_gone e → b ≡ false → (g : Went) → g ≡ record { core = c; end = e } → LeafDoes c s f (zaz f) g s
+  zaz_stops h i d g is = rw is (leaf_stops (machine_of c) s f (zaz f) _ _ (zaz_told s f.q f.a1 f.a2) (zaz_behind (machine_of c) s f) e h (sym i ∙ d))
 
-    pub zaz_goes : e ≡ end_of (zaz_way s f.q f.a1 f.a2) → is_gone e ≡ true
-        → (k : ℕ) (t : List ℕ) → Left s (l1 f.q) f.a1 m.status (value (bytes_of s (l2 f.q) f.a2)) k t
-        → ended (moved m f.next k) Executed t ≡ did m s (zaz f)
-    zaz_goes h g k t l = leaf_goes (zaz f) _ _ (zaz_told s f.q f.a1 f.a2) (zaz_behind m s f) e h g k t l
+  pub zaz_goes : e ≡ end_of (zaz_way s f.q f.a1 f.a2) → b ≡ is_gone e → b ≡ true
+      → (k : ℕ) (t : List ℕ) → Left s (l1 f.q) f.a1 c.status (value (bytes_of s (l2 f.q) f.a2)) k t
+      → (g : Went) → g ≡ record { core = moved_to c f.next k; end = Gone } → LeafDoes c s f (zaz f) g t
+  zaz_goes h i d k t l g is = rw is (leaf_goes (machine_of c) s f (zaz f) _ _ (zaz_told s f.q f.a1 f.a2) (zaz_behind (machine_of c) s f) e h (sym i ∙ d) k t l)
 
-    module _ (op : ℤ → ℤ → ℤ) where
-      pub combine_stops : e ≡ end_of (combine_way s f.q f.a1 f.a2) → is_gone e ≡ false → ended m (answer_at e f.q f.r) s ≡ did m s (combine op f)
-      combine_stops h g = leaf_stops (combine op f) _ _ (combine_told s f.q f.a1 f.a2) (combine_behind m s f op) e h g
+  module _ (op : ℤ → ℤ → ℤ) where
+    pub combine_stops : e ≡ end_of (combine_way s f.q f.a1 f.a2) → b ≡ is_gone e → b ≡ false → (g : Went) → g ≡ record { core = c; end = e } → LeafDoes c s f (combine op f) g s
+    combine_stops h i d g is = rw is (leaf_stops (machine_of c) s f (combine op f) _ _ (combine_told s f.q f.a1 f.a2) (combine_behind (machine_of c) s f op) e h (sym i ∙ d))
 
-      pub combine_goes : e ≡ end_of (combine_way s f.q f.a1 f.a2) → is_gone e ≡ true
-          → (k : ℕ) (t : List ℕ) → Left s (l1 f.q) f.a1 m.status (op (value (bytes_of s (l1 f.q) f.a1)) (value (bytes_of s (l2 f.q) f.a2))) k t
-          → ended (moved m f.next k) Executed t ≡ did m s (combine op f)
-      combine_goes h g k t l = leaf_goes (combine op f) _ _ (combine_told s f.q f.a1 f.a2) (combine_behind m s f op) e h g k t l
+    pub combine_goes : e ≡ end_of (combine_way s f.q f.a1 f.a2) → b ≡ is_gone e → b ≡ true
+        → (k : ℕ) (t : List ℕ) → Left s (l1 f.q) f.a1 c.status (op (value (bytes_of s (l1 f.q) f.a1)) (value (bytes_of s (l2 f.q) f.a2))) k t
+        → (g : Went) → g ≡ record { core = moved_to c f.next k; end = Gone } → LeafDoes c s f (combine op f) g t
+    combine_goes h i d k t l g is =
+        rw is (leaf_goes (machine_of c) s f (combine op f) _ _ (combine_told s f.q f.a1 f.a2) (combine_behind (machine_of c) s f op) e h (sym i ∙ d) k t l)

@@ -1,4 +1,6 @@
 // ZAZ, AZ and SZ: each does what its rule says. A zoned field is n bytes whose rightmost is at a.
+#![tactic(auto)]
+
 ghost use Rattle.std.specs.Prelude.{◌≡◌, ◌↔◌, true, false, cond, not, ◌+◌, ◌-◌, ◌*◌, ◌/◌, ◌%◌, ◌^◌, ◌<◌, ◌≤◌, eqb, ◌+ℤ◌, ◌-ℤ◌, length, get_or, replicate};
 ghost use Rattle.manual.specs.TheMachine.{decimal_overflow, turn_on};
 ghost use Rattle.manual.specs.Values.{bytes_of, digit, size, value, all_digits, digits_of};
@@ -43,6 +45,7 @@ fn some_bad(s: &[u8], left: usize, k: usize) -> bool
 }
 
 // The same of a field: 16 or 8 from its left and as many from its right, since a constant count leaves no rest that goes one by one.
+#[tactic(auto, using(crate::proofs::Fields::part_good, crate::proofs::Fields::parts_good, crate::proofs::Fields::whole_good))]
 fn has_bad(s: &[u8], n: usize, a: usize) -> bool
     requires { (a < length s.now) × (n ≤ a + 1) × (n ≤ 31) }
     ensures { result ≡ not (all_digits (bytes_of s.now n a)) }
@@ -64,6 +67,7 @@ fn has_bad(s: &[u8], n: usize, a: usize) -> bool
 }
 
 // A digit above 9 stops with 8.
+#[tactic(auto, unfolding(manual::specs::Values::digits_of))]
 fn digits_of(s: &[u8], n: usize, a: usize) -> End
     requires { (a < length s.now) × (n ≤ a + 1) × (n ≤ 31) }
     ensures { result ≡ end_of (digits_of (bytes_of s.now n a)) }
@@ -75,6 +79,7 @@ fn digits_of(s: &[u8], n: usize, a: usize) -> End
 }
 
 // Both operands' places, then the digits of operand 2: operand 1 of ZAZ isn't read, so not tested.
+#[tactic(auto, unfolding(manual::specs::Programs::and_then), using(crate::proofs::Ways::reached))]
 fn zaz_way(s: &[u8], q: u8, a1: usize, a2: usize) -> End
     ensures { result ≡ end_of (zaz_way s.now q a1 a2) }
 {
@@ -86,6 +91,7 @@ fn zaz_way(s: &[u8], q: u8, a1: usize, a2: usize) -> End
 }
 
 // The same, and then the digits of operand 1.
+#[tactic(auto, unfolding(manual::specs::Programs::and_then))]
 fn combine_way(s: &[u8], q: u8, a1: usize, a2: usize) -> End
     ensures { result ≡ end_of (combine_way s.now q a1 a2) }
 {
@@ -99,6 +105,7 @@ fn combine_way(s: &[u8], q: u8, a1: usize, a2: usize) -> End
 // ---- digits
 
 // Operand 2 as it was, at the right end of 31 bytes with zeros to its left: an overlap must not change a digit before it is taken.
+#[tactic(auto, using(manual::proofs::FieldBytes::written_none, manual::proofs::FieldBytes::written_next))]
 fn copied(s: &[u8], n: usize, a: usize) -> [u8; 31]
     requires { (a < length s.now) × (n ≤ a + 1) × (n ≤ 31) }
     ensures { result ≡ written (replicate 31 0) n 30 (λ j. get_or s.now (a - j) 0) }
@@ -113,6 +120,7 @@ fn copied(s: &[u8], n: usize, a: usize) -> [u8; 31]
 }
 
 // The copy put in the field, as it is.
+#[tactic(auto, using(manual::proofs::FieldBytes::written_none, manual::proofs::FieldBytes::written_next))]
 fn put_copy(s: &mut [u8], n: usize, a: usize, d: &[u8; 31])
     requires { (a < length s.old) × (n ≤ a + 1) × (n ≤ 31) }
     ensures { s.new ≡ written s.old n a (λ j. get_or d.now (30 - j) 0) }
@@ -138,6 +146,7 @@ fn put_zones(s: &mut [u8], left: usize, k: usize)
 }
 
 // Zone F over a field of digits, 16 or 8 from its right, where the columns start, and as many from its left: a byte that gets it twice is the same.
+#[tactic(auto, using(crate::proofs::Fields::zoned_one, crate::proofs::Fields::zoned_two))]
 fn put_zone(s: &mut [u8], n: usize, a: usize)
     requires a_in_bounds { (a < length s.old) × (n ≤ a + 1) × (n ≤ 31) }
     requires a_value { all_digits (bytes_of s.old n a) ≡ true }
@@ -158,6 +167,7 @@ fn put_zone(s: &mut [u8], n: usize, a: usize)
 }
 
 // Whether the digits are all zero: mostly the rightmost tells.
+#[tactic(auto, using(crate::proofs::Fields::all_zero_lem, crate::proofs::Fields::not_zero))]
 fn is_zero(s: &[u8], n: usize, a: usize) -> bool
     requires a_in_bounds { (a < length s.now) × (n ≤ a + 1) }
     requires a_value { all_digits (bytes_of s.now n a) ≡ true }
@@ -174,7 +184,7 @@ fn is_zero(s: &[u8], n: usize, a: usize) -> bool
 }
 
 // What a digit adds to its column: itself, or nine less itself.
-#[derive(Drop)]
+#[derive(Clone, Copy)]
 enum Take {
     Plain,
     Nines,
@@ -283,6 +293,7 @@ fn turned(s: &mut [u8], n: usize, a: usize)
 // ---- the result
 
 // The status beside its order: decimal overflow goes on, and is never turned off here.
+#[tactic(auto, unfolding(manual::specs::TheMachine::turn_on))]
 fn kept(over: bool, status: usize) -> usize
     requires { status < 64 }
     ensures { (result ≡ cond over (turn_on decimal_overflow status) status / 8 * 8) × (result < 64) }
@@ -294,6 +305,7 @@ fn kept(over: bool, status: usize) -> usize
 }
 
 // The sign, unless the size left is zero; answers the status.
+#[tactic(auto, unfolding(manual::specs::TheMachine::set_order))]
 fn finish(s: &mut [u8], a: usize, minus: bool, over: bool, clear: bool, status: usize) -> usize
     requires { (a < length s.old) × (status < 64) }
     ensures s_after { s.new ≡ sign_put minus clear s.old a }
@@ -312,6 +324,7 @@ fn finish(s: &mut [u8], a: usize, minus: bool, over: bool, clear: bool, status: 
 }
 
 // Two sizes of one sign add.
+#[tactic(auto, using(crate::proofs::Fields::field_put))]
 fn sum(
     s: &mut [u8],
     n: usize,
@@ -332,6 +345,7 @@ fn sum(
 }
 
 // Of two signs the smaller size is taken off the larger, whose sign stays. Without a carry operand 2's is the larger, and the columns hold ten to the n less the result.
+#[tactic(auto, using(crate::proofs::Fields::field_put, crate::proofs::Combining::again))]
 fn difference(
     s: &mut [u8],
     n: usize,

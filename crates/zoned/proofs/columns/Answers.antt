@@ -1,0 +1,16 @@
+-- A column is a digit of the sum, and what it carries on is the rest's.
+use Rattle.std.proofs.Common.{rules}
+use Rattle.zoned.proofs.Going.{going_start, second_low, columns_small, columns_next}
+use Rattle.zoned.proofs.columns.Goals as goal
+
+pub loop-j-init : goal.loop-j-init
+loop-j-init c = search (rules, going_start)
+
+pub taken-requires : goal.taken-requires
+taken-requires c = search (rules, second_low)
+
+pub carried-over-requires : goal.carried-over-requires
+carried-over-requires c = search (rules, columns_small)
+
+pub loop-j-preserved : goal.loop-j-preserved
+loop-j-preserved c = search (rules, columns_next)
