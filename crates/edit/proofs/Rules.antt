@@ -21,7 +21,7 @@ use Rattle.manual.specs.Values.{bytes_of, all_digits, digits_of, value, sign_ord
 use Rattle.manual.specs.Edit.{half_moved, mvx, count20, source_reach, put_edited, ed, scan, itc}
 use Rattle.manual.specs.Stops.{pattern_of, source_of}
 use Rattle.manual.specs.Step.{ended, moved, did, Gives}
-use Rattle.manual.proofs.Running.{from, doing, did_from, from_bind, val_leftward, fin_leftward, both_clear, reach_clear, reach_right_clear}
+use Rattle.manual.proofs.Running.{from, doing, did_from, from_bind, val_leftward, fin_leftward, reach_clear, reach_right_clear}
 use Rattle.parts.specs.declared.End.{End}
 use Rattle.parts.specs.declared.End.TheVariants.{Gone, BadDigit}
 use Rattle.parts.specs.Inside.{end_of, is_gone, answer_at}

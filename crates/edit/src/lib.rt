@@ -1,4 +1,6 @@
 // MVX, ED and ITC: each does what its rule says.
+#![tactic(auto)]
+
 ghost use Rattle.std.specs.Prelude.{◌≡◌, ◌+◌, ◌<◌, ◌≤◌, length, take, eqb};
 ghost use Rattle.manual.specs.Values.{bytes_of, size, all_digits, value, sign_order};
 ghost use Rattle.manual.specs.Edit.{half_moved, mvx, count20, source_reach, put_edited, ed, ends_scan, scan, itc};
@@ -10,6 +12,7 @@ use parts::{Core, End, Went};
 
 // ---- MVX
 
+#[tactic(auto, unfolding(manual::specs::Edit::half_moved))]
 fn half_moved(q: u8, x: u8, y: u8) -> u8
     ensures { result ≡ half_moved q x y }
 {
@@ -21,6 +24,7 @@ fn half_moved(q: u8, x: u8, y: u8) -> u8
     }
 }
 
+#[tactic(auto, using(parts::proofs::Reaching::both_reached, crate::proofs::Rules::mvx_goes, crate::proofs::Rules::mvx_stops))]
 pub fn mvx(c: Core, s: &mut [u8], f: Fields) -> Went
     ensures { LeafDoes c s.old f (mvx f) result s.new }
 {
@@ -38,6 +42,7 @@ pub fn mvx(c: Core, s: &mut [u8], f: Fields) -> Went
 // ---- ED
 
 // The count of 20s among the n bytes whose rightmost is at a.
+#[tactic(auto, using(crate::proofs::Taking::left_whole, crate::proofs::Taking::counts_none))]
 fn count_20(s: &[u8], a: usize, n: usize) -> usize
     requires { (a < length s.now) × (n ≤ a + 1) }
     ensures { (result ≡ count20 (bytes_of s.now n a)) × (result ≤ n) }
@@ -53,6 +58,7 @@ fn count_20(s: &[u8], a: usize, n: usize) -> usize
     count
 }
 
+#[tactic(auto, unfolding(manual::specs::Edit::source_reach))]
 fn source_reach(size: usize, n: usize, a: usize) -> End
     ensures { result ≡ end_of (source_reach size n a) }
 {
@@ -63,6 +69,7 @@ fn source_reach(size: usize, n: usize, a: usize) -> End
 }
 
 // Operand 2 as it was, the rightmost byte first: an overlap must not change a digit before it is taken.
+#[tactic(auto, using(crate::proofs::Taking::copied_none))]
 fn taken(s: &[u8], a: usize, n: usize) -> [u8; 256]
     requires { (n ≤ a + 1) × (n ≤ 256) × (0 < n → a < length s.now) }
     ensures { take n result ≡ bytes_of s.now n a }
@@ -76,6 +83,7 @@ fn taken(s: &[u8], a: usize, n: usize) -> [u8; 256]
     d
 }
 
+#[tactic(auto, using(crate::proofs::Taking::digit_refused, crate::proofs::Taking::digit_passed, crate::proofs::Taking::digits_done))]
 fn all_digits(d: &[u8]) -> bool
     ensures { result ≡ all_digits d.now }
 {
@@ -89,6 +97,7 @@ fn all_digits(d: &[u8]) -> bool
     true
 }
 
+#[tactic(auto, using(crate::proofs::Taking::size_refused, crate::proofs::Taking::size_passed, crate::proofs::Taking::size_done))]
 fn all_zero(d: &[u8]) -> bool
     ensures { result ≡ eqb (size d.now) 0 }
 {
@@ -103,6 +112,7 @@ fn all_zero(d: &[u8]) -> bool
 }
 
 // Equal, low, high by the value being zero, minus, plus.
+#[tactic(auto, using(crate::proofs::Taking::order_equal, crate::proofs::Taking::order_signed, crate::proofs::Taking::sized))]
 fn value_order(d: &[u8]) -> usize
     ensures { (result ≡ sign_order (value d.now)) × (result < 8) }
 {
@@ -116,6 +126,7 @@ fn value_order(d: &[u8]) -> usize
 }
 
 // Each 20 of the pattern, from the right, takes the next digit. A byte is written only after its turn, so the pattern is read where it lies.
+#[tactic(auto, using(crate::proofs::Editing::start, crate::proofs::Taking::counts))]
 fn put_edited(s: &mut [u8], a: usize, n: usize, d: &[u8])
     requires { (a < length s.old) × (n ≤ a + 1) × (count20 (bytes_of s.old n a) ≤ length d.now) }
     ensures { Gives (put_edited (bytes_of s.old n a) d.now a) s.old tt s.new }
@@ -131,6 +142,7 @@ fn put_edited(s: &mut [u8], a: usize, n: usize, d: &[u8])
     }
 }
 
+#[tactic(auto, using(parts::proofs::Reaching::reached_in, crate::proofs::Rules::source_in, crate::proofs::Rules::ed_stops, crate::proofs::Rules::source_stops, crate::proofs::Rules::digit_stops))]
 pub fn ed(c: Core, s: &mut [u8], f: Fields) -> Went
     requires { Within c }
     ensures { LeafDoes c s.old f (ed f) result s.new }
@@ -166,6 +178,7 @@ fn ends_scan(b: u8) -> bool
 }
 
 // From the left, bytes become v until one of F1 to F9 is met: yields its address or the end.
+#[tactic(auto, using(crate::proofs::Scanning::start, crate::proofs::Scanning::found, crate::proofs::Scanning::ends))]
 fn scan_right(s: &mut [u8], a: usize, n: usize, v: u8) -> usize
     requires { a + n ≤ length s.old }
     ensures { Gives (scan n a v) s.old result s.new }
@@ -185,6 +198,7 @@ fn scan_right(s: &mut [u8], a: usize, n: usize, v: u8) -> usize
     found
 }
 
+#[tactic(auto, using(parts::proofs::Reaching::reached_in, crate::proofs::Rules::right_in, crate::proofs::Rules::itc_stops, crate::proofs::Rules::first_told, crate::proofs::Rules::second_told))]
 pub fn itc(c: Core, s: &mut [u8], f: Fields) -> Went
     ensures { LeafDoes c s.old f (itc f) result s.new }
 {
