@@ -1,3 +1,3 @@
-mod Rules
-mod Sums
-mod Statuses
+pub mod Rules
+pub mod Sums
+pub mod Statuses

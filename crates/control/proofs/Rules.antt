@@ -2,7 +2,7 @@
 use mathlib.Core.Path.{◌≡◌, refl, ap, sym, ◌∙◌}
 use mathlib.Core.Bool.{Bool, true, false, cond}
 use mathlib.Core.List.{List}
-use Prim.Native.Nat.{ℕ, ◌+◌, ◌-◌, ◌*◌, ◌/◌, ◌%◌, ◌≤◌, ◌<◌}
+use Prim.Native.Nat.{ℕ, ◌+◌, ◌-◌, ◌*◌, ◌/◌, ◌%◌, ◌<◌}
 use native.Mathlib.Omega.{arith}
 use lib.Dec.{eqb}
 use lib.ListN.{length, get_or, set}
@@ -16,11 +16,11 @@ use Rattle.manual.specs.Logical.{sum_status, difference_status}
 use Rattle.manual.specs.Registers.{is_status, register_named, store, load, loaded_status, add, subtract, sum_columns, difference}
 use Rattle.manual.specs.Branches.{load_address}
 use Rattle.manual.specs.Step.{ended, moved, did}
-use Rattle.manual.proofs.Running.{from, doing, reach_clear}
+use Rattle.manual.proofs.Running.{from, doing}
 use Rattle.parts.specs.declared.Core.{Core}
 use Rattle.parts.specs.declared.End.{End}
 use Rattle.parts.specs.Inside.{machine_of, end_of, is_gone, answer_at}
-use Rattle.parts.proofs.Reaching.{reach_told, stops, goes, is_clear}
+use Rattle.parts.proofs.Reaching.{reach_told, stops, goes}
 use Rattle.control.proofs.Sums.{borrowed}
 
 cond_same : {A : Type 0} (b : Bool) (x : A) → cond b x x ≡ x

@@ -1,4 +1,6 @@
 // ST, L, A, S, LA, BC, JC and SVC: each does what its rule says.
+#![tactic(auto)]
+
 ghost use Rattle.std.specs.Prelude.{◌≡◌, ◌+◌, ◌-◌, ◌*◌, ◌%◌, ◌/◌, ◌<◌, ◌≤◌, length, get_or, set};
 ghost use Rattle.manual.specs.Registers.{store, load, loaded_status, add, subtract};
 ghost use Rattle.manual.specs.Branches.{taken, off_if_picked, after_test, branch, jump, load_address, call};
@@ -26,6 +28,7 @@ fn get_word(s: &[u8], a: usize) -> usize
     parts::joined(s[a - 1], s[a])
 }
 
+#[tactic(auto, using(parts::proofs::Reaching::reached_in, crate::proofs::Sums::register_within, crate::proofs::Rules::store_goes, crate::proofs::Rules::store_stops))]
 pub fn store(c: Core, s: &mut [u8], f: Fields) -> Went
     requires { Within c }
     ensures { LeafDoes c s.old f (store f) result s.new }
@@ -44,6 +47,7 @@ pub fn store(c: Core, s: &mut [u8], f: Fields) -> Went
 }
 
 // Bits 2, 3, 4 of the byte, and one of 5, 6, 7: equal if it is on, else low if it is on, else high.
+#[tactic(auto, using(crate::proofs::Statuses::loaded_equal, crate::proofs::Statuses::loaded_low, crate::proofs::Statuses::loaded_high))]
 fn loaded_status(b: u8) -> usize
     ensures { result ≡ loaded_status b }
 {
@@ -57,6 +61,7 @@ fn loaded_status(b: u8) -> usize
     kept + 4
 }
 
+#[tactic(auto, using(parts::proofs::Reaching::reached_in, crate::proofs::Rules::load_status, crate::proofs::Rules::load_stops))]
 pub fn load(c: Core, s: &[u8], f: Fields) -> Went
     ensures { LeafDoes c s.now f (load f) result s.now }
 {
@@ -76,6 +81,7 @@ pub fn load(c: Core, s: &[u8], f: Fields) -> Went
 }
 
 // 16-bit sum and difference, with the carry or borrow told apart.
+#[tactic(auto, using(parts::proofs::Reaching::reached_in, crate::proofs::Sums::register_within, crate::proofs::Rules::add_stops))]
 pub fn add(c: Core, s: &[u8], f: Fields) -> Went
     requires { Within c }
     ensures { LeafDoes c s.now f (add f) result s.now }
@@ -98,6 +104,7 @@ pub fn add(c: Core, s: &[u8], f: Fields) -> Went
     parts::stopped(c, end)
 }
 
+#[tactic(auto, using(parts::proofs::Reaching::reached_in, crate::proofs::Sums::register_within, crate::proofs::Rules::subtract_stops))]
 pub fn subtract(c: Core, s: &[u8], f: Fields) -> Went
     requires { Within c }
     ensures { LeafDoes c s.now f (subtract f) result s.now }
@@ -129,6 +136,7 @@ pub fn load_address(c: Core, s: &[u8], f: Fields) -> Went
 // ---- branches
 
 // Q bits 2 to 7 pick status bits; bit 0 asks whether any of them is on, or all are off.
+#[tactic(auto, unfolding(manual::specs::Branches::taken))]
 fn is_taken(q: u8, status: usize) -> bool
     ensures { result ≡ taken q status }
 {
@@ -140,6 +148,7 @@ fn is_taken(q: u8, status: usize) -> bool
 }
 
 // A picked test false or decimal overflow goes off.
+#[tactic(auto, using(crate::proofs::Statuses::after))]
 fn after_test(q: u8, status: usize) -> usize
     requires { status < 64 }
     ensures { result ≡ after_test q status }
@@ -149,6 +158,7 @@ fn after_test(q: u8, status: usize) -> usize
 }
 
 // One bit, as the rule says it: off if it is picked and on.
+#[tactic(auto, unfolding(manual::specs::TheMachine::turn_off), using(crate::proofs::Statuses::on_below))]
 fn off_if_picked(bit: usize, q: u8, status: usize) -> usize
     requires { 0 < bit }
     ensures { result ≡ off_if_picked bit q status }
@@ -164,12 +174,14 @@ fn off_if_picked(bit: usize, q: u8, status: usize) -> usize
 
 // The status on a taken way, bit by bit and not by the mask: reckoned alike on both ways, the compiler would choose IAR by the status without a branch,
 // and the next fetch would wait for the status.
+#[tactic(auto, unfolding(manual::specs::Branches::after_test))]
 fn after_taken(q: u8, status: usize) -> usize
     ensures { result ≡ after_test q status }
 {
     off_if_picked(16, q, off_if_picked(8, q, status))
 }
 
+#[tactic(auto, unfolding(manual::specs::Branches::branch), using(manual::proofs::Running::doing))]
 pub fn branch(c: Core, s: &[u8], f: Fields) -> Went
     requires { Within c }
     ensures { LeafDoes c s.now f (branch f) result s.now }
@@ -183,6 +195,7 @@ pub fn branch(c: Core, s: &[u8], f: Fields) -> Went
     parts::gone(t, f.next, after_test(f.q, c.status))
 }
 
+#[tactic(auto, unfolding(manual::specs::Branches::jump), using(manual::proofs::Running::doing))]
 pub fn jump(c: Core, s: &[u8], f: Fields) -> Went
     requires { Within c }
     ensures { LeafDoes c s.now f (jump f) result s.now }
@@ -193,6 +206,7 @@ pub fn jump(c: Core, s: &[u8], f: Fields) -> Went
     parts::gone(c, f.next, after_test(f.q, c.status))
 }
 
+#[tactic(auto, unfolding(manual::specs::Branches::call), using(manual::proofs::Running::doing))]
 pub fn call(c: Core, s: &[u8], f: Fields) -> Went
     ensures { LeafDoes c s.now f (call f) result s.now }
 {
