@@ -1,3 +1,2 @@
 pub mod Stepping
-pub mod Records
 pub mod Promised

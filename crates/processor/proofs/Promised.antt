@@ -1,5 +1,5 @@
 -- What `step` and `run` promise, as a host reads it: laws on any result that their statements allow. What carries it: the manual's theorems, through the one equation of each statement.
-use mathlib.Core.Path.{◌≡◌, refl, ap, sym, ◌∙◌, subst}
+use mathlib.Core.Path.{◌≡◌, ap, sym, ◌∙◌, subst}
 use mathlib.Core.Bool.{true}
 use mathlib.Core.List.{List}
 use mathlib.Core.Logic.{◌↔◌}
@@ -11,7 +11,7 @@ use Rattle.manual.specs.declared.Ran.{Ran}
 use Rattle.manual.specs.TheMachine.{budget_allowed}
 use Rattle.manual.specs.Numbers.{number_of}
 use Rattle.manual.specs.When.{When, Entered, RunWhen}
-use Rattle.manual.specs.Step.{Outcome, step_of, SteppedAs}
+use Rattle.manual.specs.Step.{Outcome, SteppedAs}
 use Rattle.manual.specs.Run.{RanOutcome, ran_outcome, more, run_of, RanAs}
 use Rattle.manual.proofs.WhenEach.{when_exactly}
 use Rattle.manual.proofs.RunWhenEach.{run_when_exactly}

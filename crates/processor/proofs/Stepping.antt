@@ -1,23 +1,21 @@
 -- The inner step and the turns of the run's loop, over plain variables. What carries it: a step is what decoding finds, performed, and a stop keeps machine and storage.
 use mathlib.Core.Path.{◌≡◌, refl, ap, sym, ◌∙◌, subst}
-use mathlib.Core.Bool.{Bool, true, false, false≢true}
+use mathlib.Core.Bool.{true, false, false≢true}
 use mathlib.Core.List.{List}
-use Prim.Native.Nat.{ℕ, ◌+◌, ◌≤◌, ◌<◌}
+use Prim.Native.Nat.{ℕ, ◌+◌, ◌≤◌}
 use native.Mathlib.Omega.{arith}
-use lib.ListN.{length, get_or}
+use lib.ListN.{get_or}
 use Rattle.manual.specs.declared.Machine.{Machine}
 use Rattle.manual.specs.declared.Operation.{Operation}
 use Rattle.manual.specs.declared.Fields.{Fields}
 use Rattle.manual.specs.declared.Instruction.{Instruction}
-use Rattle.manual.specs.declared.Answer.{Answer}
-use Rattle.manual.specs.declared.Answer.TheVariants.{Executed, Stopped}
-use Rattle.manual.specs.declared.Stop.{Stop}
+use Rattle.manual.specs.declared.Answer.TheVariants.{Executed}
 use Rattle.manual.specs.declared.Stop.TheVariants.{CutShort, OpcodeUnknown, QRefused, OperandOutside, DigitRefused, Supervisor}
 use Rattle.manual.specs.declared.Decoded.{Decoded}
 use Rattle.manual.specs.declared.Decoded.TheVariants.{Found, NotFound}
 use Rattle.manual.specs.Numbers.{number_of}
 use Rattle.manual.specs.Decode.{decode_of}
-use Rattle.manual.specs.Step.{Outcome, outcome, ended, exec, did, follow, inner_step}
+use Rattle.manual.specs.Step.{Outcome, ended, exec, did, follow, inner_step}
 use Rattle.manual.specs.Stops.{fields_of}
 use Rattle.manual.specs.Run.{RanOutcome, ran, turns_of}
 use Rattle.manual.proofs.Decoding.{DecodedAt, decoded_at}
@@ -31,7 +29,7 @@ use Rattle.parts.specs.declared.End.TheVariants.{Gone, Short, NoOpcode, BadQ, Ou
 use Rattle.parts.specs.declared.Went.{Went}
 use Rattle.parts.specs.Inside.{machine_of, is_gone, answer_at, Within, LeafDoes, StepDoes}
 use Rattle.decode.specs.declared.Fetched.{Fetched}
-use Rattle.decode.specs.declared.Fetched.TheVariants.{Go, PastStorage, Unnamed, QNotAllowed}
+use Rattle.decode.specs.declared.Fetched.TheVariants.{Go}
 use Rattle.decode.specs.Fetching.{fetched_of}
 use Rattle.processor.specs.Ending.{fetch_end}
 

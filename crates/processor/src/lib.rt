@@ -1,4 +1,6 @@
 // One step and the run, PUBLISHED: step and run have no `requires`, and one statement each that determines the answer, the machine and every byte.
+#![tactic(auto)]
+
 ghost use Rattle.std.specs.Prelude.{◌≡◌, Bool, ◌+◌, ◌<◌, ◌≤◌, length, get_or};
 ghost use Rattle.manual.specs.Step.{exec, SteppedAs};
 ghost use Rattle.manual.specs.Run.{ran_outcome, turns_of, RanAs};
@@ -11,6 +13,7 @@ use parts::{Core, End, Went};
 
 // ---- the inner step, without the entry tests
 
+#[tactic(auto, unfolding(manual::specs::Step::exec))]
 fn execute(c: Core, s: &mut [u8], op: Operation, f: Fields) -> Went
     requires { Within c }
     ensures { LeafDoes c s.old f (exec op f) result s.new }
@@ -57,6 +60,7 @@ fn end_of(d: Fetched) -> End
 }
 
 // The step goes on only with an instruction. Its one caller is the loop of the run, so that it is inlined there.
+#[tactic(auto, using(crate::proofs::Stepping::ends))]
 fn inner(c: Core, s: &mut [u8]) -> Went
     requires { Within c }
     ensures { StepDoes c s.old result s.new }
@@ -161,6 +165,7 @@ fn ran_to(c: Core, s: &[u8], e: End, k: u32) -> Ran
 
 // ---- the loop: the budget is tested before each fetch
 
+#[tactic(auto, unfolding(manual::specs::Run::turns_of), using(crate::proofs::Stepping::stops_at, crate::proofs::Stepping::within))]
 fn turns(m: Machine, s: &mut [u8], budget: u32) -> Ran
     requires { m.status < 64 }
     ensures { ran_outcome result s.new ≡ turns_of m s.old budget }
@@ -193,6 +198,7 @@ fn stepped(m: Machine, a: Answer) -> Stepped
 }
 
 // A step is a run of one turn: the loop of the run is the only caller of `inner`.
+#[tactic(auto, unfolding(manual::specs::Step::step_of, manual::specs::TheMachine::status_allowed), using(manual::proofs::Runs::one_turn))]
 pub fn step(m: Machine, s: &mut [u8]) -> Stepped
     ensures { SteppedAs m s.old result s.new }
 {
@@ -209,6 +215,7 @@ pub fn step(m: Machine, s: &mut [u8]) -> Stepped
     stepped(m, Answer::Refused(Refusal::SizeRefused))
 }
 
+#[tactic(auto, unfolding(manual::specs::Run::run_of, manual::specs::TheMachine::budget_allowed, manual::specs::TheMachine::status_allowed))]
 pub fn run(m: Machine, s: &mut [u8], budget: u32) -> Ran
     ensures { RanAs m s.old budget result s.new }
 {
