@@ -28,6 +28,7 @@ pub(crate) fn word(d: &[u8], at: usize) -> u16
 }
 
 // Whether every byte is zero. No early way out, so that the compiler takes many bytes at a time.
+#[tactic(auto, using(crate::proofs::Zeros::zero_not, crate::proofs::Zeros::zero_more))]
 pub(crate) fn all_zero(page: &[u8]) -> bool
     ensures { result ≡ all_zero page.now }
 {

@@ -33,6 +33,7 @@ pub(crate) fn record_length(kind: u8) -> usize
 }
 
 // The machine of the record 01 at the front of `d`.
+#[tactic(auto, unfolding(manual::specs::Deck::machine_in))]
 pub(crate) fn machine_in(d: &[u8]) -> Machine
     requires { 19 ≤ length d.now }
     ensures { result ≡ machine_in d.now }
@@ -54,6 +55,7 @@ pub(crate) fn machine_in(d: &[u8]) -> Machine
 }
 
 // The record 01 of a machine with this many pages.
+#[tactic(auto, unfolding(manual::specs::Deck::machine_record))]
 pub(crate) fn machine_record(pages: usize, m: Machine) -> [u8; 19]
     requires pages_bound { pages ≤ 256 }
     requires le_pages { 1 ≤ pages }

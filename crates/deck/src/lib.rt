@@ -1,4 +1,6 @@
 // The deck reader and writer, PUBLISHED: no `requires`, and one statement each that determines the answer, the machine and every lent byte.
+#![tactic(auto)]
+
 mod bytes;
 mod format;
 mod reader;
@@ -11,6 +13,7 @@ ghost use Rattle.manual.specs.Deck.{ReadAs, WroteAs, deck_of};
 use manual::{DeckOut, Machine, ReadAnswer, WriteAnswer, WriteFault};
 
 // Reads a deck into the storage `s`. A refusal returns a zeroed machine and leaves the storage: the deck is checked whole before anything is stored.
+#[tactic(auto, unfolding(manual::specs::Deck::read_of, manual::specs::Deck::storage_in), using(manual::proofs::DeckRecords::accepted))]
 pub fn read(deck: &[u8], s: &mut [u8]) -> DeckOut
     ensures { ReadAs deck.now s.old result s.new }
 {
@@ -35,6 +38,7 @@ pub fn read(deck: &[u8], s: &mut [u8]) -> DeckOut
 }
 
 // Writes the deck of a machine and its storage to the front of `out`. A refusal leaves the output.
+#[tactic(auto, unfolding(manual::specs::Deck::write_of, manual::specs::TheMachine::status_allowed), using(manual::proofs::Decks::length_parts))]
 pub fn write(m: Machine, s: &[u8], out: &mut [u8]) -> WriteAnswer
     ensures { WroteAs m s.now out.old result out.new }
 {
@@ -53,6 +57,7 @@ pub fn write(m: Machine, s: &[u8], out: &mut [u8]) -> WriteAnswer
 }
 
 // The room that the deck of a machine and its storage needs; 0 where the size isn't allowed.
+#[tactic(auto, using(manual::proofs::Decks::length_parts))]
 pub fn length(m: Machine, s: &[u8]) -> usize
     ensures { result ≡ cond (size_allowed (length s.now)) (length (deck_of m s.now)) 0 }
 {

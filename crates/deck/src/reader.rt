@@ -31,6 +31,7 @@ fn asked(d: &[u8], first: bool) -> ReadAnswer
 }
 
 // The first record.
+#[tactic(auto, unfolding(manual::specs::Deck::first_answer, manual::specs::TheMachine::status_allowed))]
 fn first(d: &[u8], size: usize) -> ReadAnswer
     ensures { result ≡ first_answer d.now size DeckRead }
 {
@@ -51,6 +52,7 @@ fn first(d: &[u8], size: usize) -> ReadAnswer
 }
 
 // A record 02 at the front of `d`, where `next` is the page above the last one.
+#[tactic(auto, unfolding(manual::specs::Deck::page_answer))]
 fn page(d: &[u8], pages: usize, next: usize) -> ReadAnswer
     requires { 258 ≤ length d.now }
     ensures { result ≡ page_answer d.now pages next DeckRead }
@@ -69,6 +71,7 @@ fn page(d: &[u8], pages: usize, next: usize) -> ReadAnswer
 }
 
 // A record after the first, at the front of `d`.
+#[tactic(auto, unfolding(manual::proofs::DeckRecords::later_record))]
 fn later(d: &[u8], pages: usize, next: usize) -> ReadAnswer
     ensures { result ≡ later_record d.now pages next DeckRead }
 {
@@ -87,6 +90,7 @@ fn later(d: &[u8], pages: usize, next: usize) -> ReadAnswer
 }
 
 // The records after the first.
+#[tactic(auto, using(crate::proofs::Reading::tail, crate::proofs::Reading::reading_page))]
 fn rest(deck: &[u8], pages: usize) -> ReadAnswer
     requires { 19 ≤ length deck.now }
     ensures { result ≡ later_answer (length deck.now) (drop 19 deck.now) pages 0 }
@@ -110,6 +114,7 @@ fn rest(deck: &[u8], pages: usize) -> ReadAnswer
 }
 
 // Whether the deck is accepted for a storage of `size` bytes.
+#[tactic(auto, using(crate::proofs::Reading::deck_refused, crate::proofs::Reading::deck_rest, manual::proofs::DeckRecords::first_at))]
 pub(crate) fn verdict(deck: &[u8], size: usize) -> ReadAnswer
     ensures { result ≡ deck_answer deck.now size }
 {
@@ -120,6 +125,7 @@ pub(crate) fn verdict(deck: &[u8], size: usize) -> ReadAnswer
 }
 
 // Lays the pages of an accepted deck over the storage.
+#[tactic(auto, using(crate::proofs::Reading::laying_starts, crate::proofs::Reading::laying_page, crate::proofs::Reading::page_span))]
 pub(crate) fn lay_pages(deck: &[u8], s: &mut [u8])
     requires { deck_answer deck.now (length s.old) ≡ DeckRead }
     ensures { s.new ≡ paged (length deck.now) (drop 19 deck.now) s.old }

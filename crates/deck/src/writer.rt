@@ -18,6 +18,7 @@ fn page_length(page: &[u8]) -> usize
 }
 
 // The length of the deck of a storage.
+#[tactic(auto, using(crate::proofs::Writing::span, crate::proofs::Writing::pages_length, manual::proofs::Pages::pages_done))]
 pub(crate) fn deck_length(s: &[u8]) -> usize
     ensures { result ≡ 20 + length (page_records (length s.now / 256) 0 s.now) }
 {
@@ -33,6 +34,7 @@ pub(crate) fn deck_length(s: &[u8]) -> usize
 }
 
 // Writes a page's record, if it has one, at the place `at`, and returns the place after it.
+#[tactic(auto, using(manual::proofs::Pages::over_none, manual::proofs::Pages::over_two, crate::proofs::Writing::record_room))]
 fn write_page(page: &[u8], number: u8, out: &mut [u8], at: usize) -> usize
     requires { (length page.now ≡ 256) × (at + length (page_record number page.now) ≤ length out.old) }
     ensures value { result ≡ at + length (page_record number page.now) }
@@ -48,6 +50,7 @@ fn write_page(page: &[u8], number: u8, out: &mut [u8], at: usize) -> usize
 }
 
 // Writes the records of the pages behind the first record, and returns the place after them.
+#[tactic(auto, using(crate::proofs::Writing::span, crate::proofs::Writing::pages_length, crate::proofs::Writing::over_page, manual::proofs::Pages::over_none, manual::proofs::Pages::record_length_lem, manual::proofs::Pages::pages_done, manual::proofs::Pages::page_whole))]
 fn write_pages(s: &[u8], out: &mut [u8]) -> usize
     requires s_len_bound { length s.now ≤ 65536 }
     requires s_in_bounds { 19 + length (page_records (length s.now / 256) 0 s.now) ≤ length out.old }
@@ -66,6 +69,7 @@ fn write_pages(s: &[u8], out: &mut [u8]) -> usize
 }
 
 // Writes the deck of a machine and its storage to the front of `out`.
+#[tactic(auto, using(manual::proofs::Decks::size_pages, manual::proofs::Decks::length_parts, crate::proofs::Writing::deck_over))]
 pub(crate) fn write_deck(m: Machine, s: &[u8], out: &mut [u8])
     requires s_value { size_allowed (length s.now) ≡ true }
     requires s_in_bounds { length (deck_of m s.now) ≤ length out.old }
