@@ -1,10 +1,10 @@
 -- What decides a line: the storage lent counts by its size alone, and of a deck that is too large the front is enough.
-use Prim.Native.Nat.{ℕ, ◌+◌, ◌*◌, ◌<◌, ◌≤◌}
+use Prim.Native.Nat.{ℕ, ◌<◌, ◌≤◌}
 use native.Mathlib.Omega.{arith}
 use mathlib.Core.Path.{◌≡◌, refl, ap, sym, ◌∙◌}
 use mathlib.Core.Bool.{Bool, true, false, true≢false, ◌||◌}
 use mathlib.Core.List.{List}
-use borrow.Author.Tests.{ltb-false, lt-ltb, le-ltb}
+use borrow.Author.Tests.{ltb-false, lt-ltb}
 use lib.Dec.{ltb}
 use lib.ListN.{length, get_or, take, replicate, length-replicate}
 use lib.Seq.{length-take-le}

@@ -6,7 +6,7 @@ use native.Mathlib.Numerals.{sub-one}
 use mathlib.Core.Path.{◌≡◌, refl, ap, sym, ◌∙◌}
 use mathlib.Core.List.{List, [], ◌∷◌, ◌++◌, append-nil, append_assoc}
 use borrow.Author.Tests.{lt-ltb, le-ltb}
-use lib.ListN.{length, take, drop, set, replicate, take-append-drop}
+use lib.ListN.{length, drop, set, replicate, take-append-drop}
 use lib.Seq.{length-take-le, drop-set-lt, drop-drop}
 use Rattle.manual.specs.declared.Machine.{Machine}
 use Rattle.manual.specs.Runner.{character, blank, newline, byte_text, decimal, registers_text, run_line}
@@ -22,10 +22,11 @@ unfolding decimal
 decimal_last zero x ne h = absurd (ne refl)
 decimal_last (suc n) x ne h = rw (lt-ltb _ _ h)
 
-pub decimal_more : (n x : ℕ) → (n ≡ 0 → ⊥) → 10 ≤ x → decimal n x ≡ decimal (n - 1) (x / 10) ++ character (x % 10) ∷ []
+pub decimal_more :
+    (l : List ℕ) (n x : ℕ) → (n ≡ 0 → ⊥) → 10 ≤ x → l ++ decimal n x ≡ (l ++ decimal (n - 1) (x / 10)) ++ character (x % 10) ∷ []
 unfolding decimal
-decimal_more zero x ne h = absurd (ne refl)
-decimal_more (suc n) x ne h = rw (sub-one, le-ltb _ _ h)
+decimal_more l zero x ne h = absurd (ne refl)
+decimal_more l (suc n) x ne h = rw (sub-one, le-ltb _ _ h, append_assoc)
 
 -- eight pieces appended one by one
 pub eight :
@@ -41,11 +42,6 @@ pub run_text :
 unfolding run_line
 run_text m n k q r h {l₃ = l₃} p₀ p₁ p₂ p₃ p₄ p₅ p₆ p₇ p₈ =
     rw (p₈, p₇, p₆, p₅, p₄, append_assoc l₃ (blank ∷ []) (decimal 8 k), p₃, p₂, p₁, p₀, decimal_last 8 n (suc-ne-zero 7) h)
-
--- and their lengths
-pub run_length :
-    {n₀ n₁ n₂ n₃ n₄ n₅ n₆ n₇ : ℕ} → n₀ ≡ 0 → n₁ ≡ n₀ + 1 → n₂ ≡ n₁ + 40 → n₃ ≡ n₂ + 3 → n₄ ≡ n₃ + 1 → n₅ ≤ n₄ + 8 → n₆ ≡ n₅ + 3 → n₇ ≡ n₆ + 3 → n₇ + 1 ≤ 64
-run_length p₀ p₁ p₂ p₃ p₄ p₅ p₆ p₇ = omega arith
 
 -- ---- the zeros behind a text
 

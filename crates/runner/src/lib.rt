@@ -1,4 +1,6 @@
 // The deck runner's line, PUBLISHED: no `requires`, and one statement that determines every byte of the line.
+#![tactic(auto)]
+
 mod text;
 
 ghost use Rattle.std.specs.Prelude.{◌≡◌, false, ◌≤◌, length, get_or};
@@ -9,7 +11,7 @@ ghost use Rattle.runner.specs.Text.{printed};
 use manual::{Ended, Machine, ReadAnswer};
 
 // The line stands at the front of `bytes`.
-#[derive(Drop)]
+#[derive(Clone, Copy)]
 pub struct Printed {
     pub bytes: [u8; 64],
     pub length: usize,
@@ -17,6 +19,7 @@ pub struct Printed {
 
 // ---- the two kinds of line
 
+#[tactic(auto, unfolding(manual::specs::Runner::number_line), using(crate::proofs::Lines::as_printed))]
 fn number_line(n: u8) -> Printed
     ensures { (result ≡ printed (number_line n)) × (result.length ≤ length result.bytes) }
 {
@@ -49,6 +52,7 @@ fn second(deck: &[u8]) -> u8
     0
 }
 
+#[tactic(auto, unfolding(manual::specs::Runner::too_large))]
 fn too_large(deck: &[u8]) -> bool
     ensures { result ≡ too_large deck.now }
 {
@@ -76,6 +80,7 @@ fn answered(deck: &[u8], s: &mut [u8]) -> Printed
 }
 
 // Lends as much of the storage as the deck asks for.
+#[tactic(auto, using(crate::proofs::Decided::fits))]
 fn lent(deck: &[u8], storage: &mut [u8]) -> Printed
     requires { (too_large deck.now ≡ false) × (length storage.old ≡ 16384) }
     ensures { (result ≡ printed (line_of deck.now)) × (result.length ≤ length result.bytes) }
@@ -84,6 +89,7 @@ fn lent(deck: &[u8], storage: &mut [u8]) -> Printed
     answered(deck, &mut storage[0..size])
 }
 
+#[tactic(auto, using(crate::proofs::Decided::large_line))]
 pub fn line(deck: &[u8]) -> Printed
     ensures { (result ≡ printed (line_of deck.now)) × (result.length ≤ length result.bytes) }
 {

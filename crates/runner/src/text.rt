@@ -60,6 +60,7 @@ fn with_word(l: Printed, w: u16) -> Printed
 }
 
 // The eight registers, a blank before each.
+#[tactic(auto, using(crate::proofs::Lines::eight))]
 pub(crate) fn with_registers(l: Printed, m: Machine) -> Printed
     requires { Room l 40 }
     ensures { Adds l (blank ∷ registers_text m) 40 result }
@@ -76,6 +77,7 @@ pub(crate) fn with_registers(l: Printed, m: Machine) -> Printed
 }
 
 // At most that many digits of x, which are all of them if there are no more.
+#[tactic(auto, using(crate::proofs::Lines::decimal_none, crate::proofs::Lines::decimal_last, crate::proofs::Lines::decimal_more))]
 pub(crate) fn with_decimal(l: Printed, x: u32, places: usize) -> Printed
     requires { Room l places }
     ensures { (text result ≡ text l ++ decimal places x) × (result.length ≤ l.length + places) × (length result.bytes ≡ 64) × (Behind l → Behind result) }
