@@ -1,7 +1,10 @@
 // Prints the line of each deck on standard input. Each deck stands behind its length, two bytes, high byte first; the length FFFF ends them.
-ghost use Rattle.std.specs.Prelude.{◌<◌};
+#![tactic(auto)]
 
-use libc::{STDIN_FILENO, STDOUT_FILENO};
+ghost use Rattle.std.specs.Prelude.{◌<◌, IfOk};
+
+use std::alloc::Global;
+use std::io::{self, Read, Write};
 
 fn joined(high: u8, low: u8) -> usize
     ensures { result < 65536 }
@@ -9,51 +12,59 @@ fn joined(high: u8, low: u8) -> usize
     (high as usize) * 256 + (low as usize)
 }
 
-fn print_line(deck: &[u8]) {
-    let line = runner::line(deck);
-    let bytes = line.bytes;
-    io::write_all(STDOUT_FILENO, &bytes[..line.length]);
+// The next bytes of the input, fewer than `most` at its end.
+fn next_bytes<R: Read>(alloc: Global, input: &mut R, most: u64) -> io::Result<Vec<u8>> {
+    let mut bytes = Vec::new(alloc);
+    input.take(most).read_to_end(&mut bytes)?;
+    Ok(bytes)
 }
 
-// The length of the next deck; more than any buffer holds at the end of the input.
-fn next_length() -> usize
-    ensures { result < 65536 }
+fn print_line<W: Write>(output: &mut W, deck: &[u8]) -> io::Result<()> {
+    let line = runner::line(deck);
+    output.write_all(&line.bytes[..line.length])
+}
+
+// The length of the next deck; more than any deck has at the end of the input.
+fn next_length<R: Read>(alloc: Global, input: &mut R) -> io::Result<usize>
+    ensures { IfOk result (λ n. n < 65536) }
 {
-    let mut head = [255u8; 2];
-    let n = io::read_full(STDIN_FILENO, &mut head);
-    if n < 2 {
-        return 65535;
+    let head = next_bytes(alloc, input, 2)?;
+    if head.len() < 2 {
+        return Ok(65535);
     }
-    joined(head[0], head[1])
+    Ok(joined(head[0], head[1]))
 }
 
 // Prints the line of a deck of that many bytes.
-fn deck_of(bytes: &mut [u8]) {
-    let n = io::read_full(STDIN_FILENO, bytes);
-    print_line(&bytes[..n]);
+fn deck_of<R: Read, W: Write>(
+    alloc: Global,
+    input: &mut R,
+    output: &mut W,
+    length: usize,
+) -> io::Result<()> {
+    let deck = next_bytes(alloc, input, length as u64)?;
+    print_line(output, &deck)
 }
 
 // Prints the next deck's line; false where there is no deck.
-fn one_deck(buffer: &mut [u8]) -> bool {
-    let n = next_length();
-    if buffer.len() < n {
-        return false;
+fn one_deck<R: Read, W: Write>(alloc: Global, input: &mut R, output: &mut W) -> io::Result<bool> {
+    let length = next_length(alloc, input)?;
+    if 17000 < length {
+        return Ok(false);
     }
-    deck_of(&mut buffer[..n]);
-    true
+    deck_of(alloc, input, output, length)?;
+    Ok(true)
 }
 
-fn decks(buffer: &mut [u8]) {
-    let mut left: usize = 1000;
-    while 0 < left {
-        if !one_deck(buffer) {
-            return;
+fn decks<R: Read, W: Write>(alloc: Global, input: &mut R, output: &mut W) -> io::Result<()> {
+    for _ in 0..1000 {
+        if !one_deck(alloc, input, output)? {
+            break;
         }
-        left -= 1;
     }
+    Ok(())
 }
 
-fn main() {
-    let mut buffer = [0u8; 17000];
-    decks(&mut buffer);
+fn main(rt: HostRuntime) -> io::Result<()> {
+    decks(rt.alloc(), &mut rt.reader(), &mut io::writer(&rt))
 }
