@@ -1,10 +1,12 @@
 // Runs the worked examples of document 001 and the table of the morning check through `step`, and prints each with what it gave.
 // A line of standard input: page and instruction in ten places; IAR, ARR, XR1, XR2, WR4 to WR7; the status; then stretches of storage, each an
 // address, a colon and its bytes. It is printed with what the step gave: the answer's number, the registers, the status, the same stretches.
+#![tactic(auto)]
+
 ghost use Rattle.std.specs.Prelude.{◌<◌, ◌≤◌, length};
 
-use libc::{STDIN_FILENO, STDOUT_FILENO};
 use manual::Machine;
+use std::io::{self, Read, Write};
 
 // ---- reading
 
@@ -70,8 +72,8 @@ fn machine_of(line: &[u8]) -> Machine {
 
 // ---- printing
 
-fn print(text: &[u8]) {
-    io::write_all(STDOUT_FILENO, text);
+fn print<W: Write>(output: &mut W, text: &[u8]) -> io::Result<()> {
+    output.write_all(text)
 }
 
 fn digit(v: u8) -> u8
@@ -83,35 +85,35 @@ fn digit(v: u8) -> u8
     55 + v
 }
 
-fn print_byte(b: u8) {
+fn print_byte<W: Write>(output: &mut W, b: u8) -> io::Result<()> {
     let pair = [digit(b / 16), digit(b % 16)];
-    print(&pair);
+    print(output, &pair)
 }
 
 // A blank and four digits.
-fn print_word(w: u16) {
-    print(b" ");
-    print_byte((w / 256) as u8);
-    print_byte((w % 256) as u8);
+fn print_word<W: Write>(output: &mut W, w: u16) -> io::Result<()> {
+    print(output, b" ")?;
+    print_byte(output, (w / 256) as u8)?;
+    print_byte(output, (w % 256) as u8)
 }
 
-fn print_address(w: u16) {
-    print_word(w);
-    print(b":");
+fn print_address<W: Write>(output: &mut W, w: u16) -> io::Result<()> {
+    print_word(output, w)?;
+    print(output, b":")
 }
 
-fn print_machine(m: Machine) {
+fn print_machine<W: Write>(output: &mut W, m: Machine) -> io::Result<()> {
     let wr = m.wr;
-    print_word(m.iar);
-    print_word(m.arr);
-    print_word(m.xr1);
-    print_word(m.xr2);
-    print_word(wr[0]);
-    print_word(wr[1]);
-    print_word(wr[2]);
-    print_word(wr[3]);
-    print(b" ");
-    print_byte(m.status);
+    print_word(output, m.iar)?;
+    print_word(output, m.arr)?;
+    print_word(output, m.xr1)?;
+    print_word(output, m.xr2)?;
+    print_word(output, wr[0])?;
+    print_word(output, wr[1])?;
+    print_word(output, wr[2])?;
+    print_word(output, wr[3])?;
+    print(output, b" ")?;
+    print_byte(output, m.status)
 }
 
 // ---- the stretches of a line
@@ -149,7 +151,7 @@ fn lay(line: &[u8], s: &mut [u8])
     }
 }
 
-fn print_stretches(line: &[u8], s: &[u8])
+fn print_stretches<W: Write>(output: &mut W, line: &[u8], s: &[u8]) -> io::Result<()>
     requires { length line.now ≤ 16384 }
 {
     let mut i = 53;
@@ -157,33 +159,32 @@ fn print_stretches(line: &[u8], s: &[u8])
     while i < line.len() {
         if is_address(line, i) {
             a = word_at(line, i) as usize;
-            print_address(word_at(line, i));
+            print_address(output, word_at(line, i))?;
             i += 5;
         } else if line[i] == 32 {
             i += 1;
         } else {
-            print_byte(at(s, a));
+            print_byte(output, at(s, a))?;
             a += 1;
             i += 2;
         }
     }
+    Ok(())
 }
 
 // ---- the examples
 
-fn example(line: &[u8])
+fn example<W: Write>(output: &mut W, line: &[u8]) -> io::Result<()>
     requires { length line.now ≤ 16384 }
 {
     let mut s = [0u8; 16384];
     lay(line, &mut s);
     let t = processor::step(machine_of(line), &mut s);
-    let answer = t.answer;
-    print(line);
-    print(b" -> ");
-    io::print_decimal(STDOUT_FILENO, told::number_of(answer) as u64);
-    print_machine(t.machine);
-    print_stretches(line, &s);
-    print(b"\n");
+    print(output, line)?;
+    write!(output, " -> {}", told::number_of(t.answer))?;
+    print_machine(output, t.machine)?;
+    print_stretches(output, line, &s)?;
+    print(output, b"\n")
 }
 
 fn line_end(text: &[u8], from: usize) -> usize
@@ -200,19 +201,20 @@ fn line_end(text: &[u8], from: usize) -> usize
     i
 }
 
-fn examples(text: &[u8])
+fn examples<W: Write>(output: &mut W, text: &[u8]) -> io::Result<()>
     requires { length text.now ≤ 16384 }
 {
     let mut from = 0;
     while from < text.len() {
         let end = line_end(text, from);
-        example(&text[from..end]);
+        example(output, &text[from..end])?;
         from = end + 1;
     }
+    Ok(())
 }
 
-fn main() {
-    let mut text = [0u8; 16384];
-    let n = io::read_full(STDIN_FILENO, &mut text);
-    examples(&text[..n]);
+fn main(rt: HostRuntime) -> io::Result<()> {
+    let mut text = Vec::new(rt.alloc());
+    rt.reader().take(16384).read_to_end(&mut text)?;
+    examples(&mut io::writer(&rt), &text[..text.len().min(16384)])
 }
