@@ -1,5 +1,7 @@
 // The host keeps one machine record and lends it, PUBLISHED and exported to C: each entry alters that record itself and tells the paper's numbers.
 // No entry has a `requires`, and each has one statement: the relation of the function under it, told in numbers (specs/Told).
+#![tactic(auto)]
+
 ghost use Rattle.std.specs.Prelude.{◌≡◌};
 ghost use Rattle.host.specs.Told.{step_numbers, run_numbers, write_numbers, ToldStepAs, ToldRunAs, ToldReadAs, ToldWriteAs, ToldLengthAs};
 
@@ -8,7 +10,7 @@ use manual::{Answer, Ended, Machine, WriteAnswer};
 // ---- what comes back: numbers only, since C has no enum of ours
 
 #[repr(C)]
-#[derive(Drop)]
+#[derive(Clone, Copy)]
 pub struct StepNumbers {
     pub number: u8,
     pub q: u8,
@@ -16,7 +18,7 @@ pub struct StepNumbers {
 }
 
 #[repr(C)]
-#[derive(Drop)]
+#[derive(Clone, Copy)]
 pub struct RunNumbers {
     pub number: u8,
     pub q: u8,
@@ -25,7 +27,7 @@ pub struct RunNumbers {
 }
 
 #[repr(C)]
-#[derive(Drop)]
+#[derive(Clone, Copy)]
 pub struct WriteNumbers {
     pub number: u8,
     pub length: usize,
@@ -33,31 +35,31 @@ pub struct WriteNumbers {
 
 // ---- by value: the machine afterwards, and what is told
 
-#[derive(Drop)]
+#[derive(Clone, Copy)]
 pub struct ToldStep {
     pub machine: Machine,
     pub numbers: StepNumbers,
 }
 
-#[derive(Drop)]
+#[derive(Clone, Copy)]
 pub struct ToldRun {
     pub machine: Machine,
     pub numbers: RunNumbers,
 }
 
-#[derive(Drop)]
+#[derive(Clone, Copy)]
 pub struct ToldRead {
     pub machine: Machine,
     pub number: u8,
 }
 
-#[derive(Drop)]
+#[derive(Clone, Copy)]
 pub struct ToldWrite {
     pub machine: Machine,
     pub numbers: WriteNumbers,
 }
 
-#[derive(Drop)]
+#[derive(Clone, Copy)]
 pub struct ToldLength {
     pub machine: Machine,
     pub length: usize,
