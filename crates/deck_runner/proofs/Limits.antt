@@ -1,7 +1,8 @@
--- One byte more than a deck may have decides: the bytes behind it change nothing.
-use Rattle.std.proofs.Common.{◌≡◌, ℕ, ◌<◌, List, length, take, true, ap, lt-ltb, arith}
-use Rattle.std.proofs.lemmas.List.{take_all, length-take-le}
+-- One byte more than a deck may have decides: where the buffer is full the deck is too large, whatever stands behind; else the buffer has all of it.
+use Rattle.std.proofs.Common.{◌≡◌, ℕ, ◌<◌, ◌≤◌, List, [], ◌++◌, length, take, true, Option, None, Some, IfSome, lt-ltb, append-nil, length-append, arith}
+use Rattle.std.proofs.lemmas.List.{length-take-le}
 use Rattle.std.proofs.lemmas.Bool.{cases_lt}
+use Rattle.std.specs.Io.KnownBytes.{Consumes, IsAtEnd}
 use mathlib.Core.Logic.{⊎_elim}
 use Rattle.manual.specs.Runner.{too_large, line_of}
 
@@ -13,12 +14,19 @@ both : (d e : List ℕ) → too_large d ≡ true → too_large e ≡ true → li
 unfolding line_of
 both d e h k = rw (h, k)
 
-taken : (n : ℕ) (bytes : List ℕ) → 16532 < n → line_of (take n bytes) ≡ line_of bytes
-taken n bytes h =
-    ⊎_elim
-    (λ k. let e : length (take n bytes) ≡ n = length-take-le n bytes (omega arith) in both _ _ (long _ (omega arith)) (long _ (omega arith)))
-    (λ k. ap line_of (take_all n bytes k))
-    (cases_lt n (length bytes))
+ended : (front rest : List ℕ) → rest ≡ [] → line_of front ≡ line_of (front ++ rest)
+ended front rest none = rw (none, append-nil)
 
-pub line_of_taken : (bytes : List ℕ) → line_of (take 16533 bytes) ≡ line_of bytes
-line_of_taken bytes = taken 16533 bytes (omega arith)
+full : (front rest : List ℕ) → 16532 < length front → line_of front ≡ line_of (front ++ rest)
+full front rest h = both front (front ++ rest) (long front h) (long (front ++ rest) (omega (arith, length-append front rest)))
+
+pub line_of_filled : (old new : Option (List ℕ)) (buffer : List ℕ) (n : ℕ) → 16532 < length buffer → n ≤ length buffer
+    → Consumes old new (take n buffer) → (n < length buffer → IsAtEnd new) → IfSome old (λ bytes. line_of (take n buffer) ≡ line_of bytes)
+line_of_filled None new buffer n large within taken end = tt
+line_of_filled (Some bytes) None buffer n large within taken end = absurd taken
+line_of_filled (Some bytes) (Some rest) buffer n large within taken end =
+    rw taken
+    (⊎_elim
+    (λ k. ended (take n buffer) rest (end k))
+    (λ k. full (take n buffer) rest (omega (arith, length-take-le n buffer within)))
+    (cases_lt n (length buffer)))

@@ -3,7 +3,6 @@
 
 ghost use Rattle.std.specs.Prelude.{◌<◌, IfOk};
 
-use std::alloc::Global;
 use std::io::{self, Read, Write};
 
 fn joined(high: u8, low: u8) -> usize
@@ -12,53 +11,45 @@ fn joined(high: u8, low: u8) -> usize
     (high as usize) * 256 + (low as usize)
 }
 
-// The next bytes of the input, fewer than `most` at its end.
-fn next_bytes<R: Read>(alloc: Global, input: &mut R, most: u64) -> io::Result<Vec<u8>> {
-    let mut bytes = Vec::new(alloc);
-    input.take(most).read_to_end(&mut bytes)?;
-    Ok(bytes)
-}
-
 fn print_line<W: Write>(output: &mut W, deck: &[u8]) -> io::Result<()> {
     let line = runner::line(deck);
     output.write_all(&line.bytes[..line.length])
 }
 
-// The length of the next deck; more than any deck has at the end of the input.
-fn next_length<R: Read>(alloc: Global, input: &mut R) -> io::Result<usize>
+// The length of the next deck; more than any buffer holds at the end of the input.
+fn next_length<R: Read>(input: &mut R) -> io::Result<usize>
     ensures { IfOk result (λ n. n < 65536) }
 {
-    let head = next_bytes(alloc, input, 2)?;
-    if head.len() < 2 {
+    let mut head = [255u8; 2];
+    if input::fill(input, &mut head)? < 2 {
         return Ok(65535);
     }
     Ok(joined(head[0], head[1]))
 }
 
 // Prints the line of a deck of that many bytes.
-fn deck_of<R: Read, W: Write>(
-    alloc: Global,
-    input: &mut R,
-    output: &mut W,
-    length: usize,
-) -> io::Result<()> {
-    let deck = next_bytes(alloc, input, length as u64)?;
-    print_line(output, &deck)
+fn deck_of<R: Read, W: Write>(input: &mut R, output: &mut W, bytes: &mut [u8]) -> io::Result<()> {
+    let n = input::fill(input, bytes)?;
+    print_line(output, &bytes[..n])
 }
 
 // Prints the next deck's line; false where there is no deck.
-fn one_deck<R: Read, W: Write>(alloc: Global, input: &mut R, output: &mut W) -> io::Result<bool> {
-    let length = next_length(alloc, input)?;
-    if 17000 < length {
+fn one_deck<R: Read, W: Write>(
+    input: &mut R,
+    output: &mut W,
+    buffer: &mut [u8],
+) -> io::Result<bool> {
+    let n = next_length(input)?;
+    if buffer.len() < n {
         return Ok(false);
     }
-    deck_of(alloc, input, output, length)?;
+    deck_of(input, output, &mut buffer[..n])?;
     Ok(true)
 }
 
-fn decks<R: Read, W: Write>(alloc: Global, input: &mut R, output: &mut W) -> io::Result<()> {
+fn decks<R: Read, W: Write>(input: &mut R, output: &mut W, buffer: &mut [u8]) -> io::Result<()> {
     for _ in 0..1000 {
-        if !one_deck(alloc, input, output)? {
+        if !one_deck(input, output, buffer)? {
             break;
         }
     }
@@ -66,5 +57,6 @@ fn decks<R: Read, W: Write>(alloc: Global, input: &mut R, output: &mut W) -> io:
 }
 
 fn main(rt: HostRuntime) -> io::Result<()> {
-    decks(rt.alloc(), &mut rt.reader(), &mut io::writer(&rt))
+    let mut buffer = [0u8; 17000];
+    decks(&mut rt.reader(), &mut io::writer(&rt), &mut buffer)
 }

@@ -6,7 +6,7 @@
 ghost use Rattle.std.specs.Prelude.{◌<◌, ◌≤◌, length};
 
 use manual::Machine;
-use std::io::{self, Read, Write};
+use std::io::{self, Write};
 
 // ---- reading
 
@@ -214,7 +214,7 @@ fn examples<W: Write>(output: &mut W, text: &[u8]) -> io::Result<()>
 }
 
 fn main(rt: HostRuntime) -> io::Result<()> {
-    let mut text = Vec::new(rt.alloc());
-    rt.reader().take(16384).read_to_end(&mut text)?;
-    examples(&mut io::writer(&rt), &text[..text.len().min(16384)])
+    let mut text = [0u8; 16384];
+    let n = input::fill(&mut rt.reader(), &mut text)?;
+    examples(&mut io::writer(&rt), &text[..n])
 }
