@@ -9,7 +9,7 @@ help:
 	@echo "make check             the compiled library against the independent model: a fixed seed, demand 3, deliberate faults"
 	@echo "make fuzz [SEED=n]     the same with one seed after another, until a difference or Ctrl-C"
 	@echo "make bench             the library's speed beside Rust interpreters, guest by guest"
-	@echo "make test              the gate: everything proved from nothing, must-fail edits refused, programs run (.ci/run)"
+	@echo "make test              the gate: hosts, model, everything proved, must-fail edits refused, programs run (.ci/run)"
 	@echo "make fmt               format the sources"
 
 # the program is proved and built first, which takes some minutes the first time and a moment after

@@ -1,17 +1,14 @@
 -- What decoding finds: an instruction's Q and R bytes are those after its opcode, and a stop is 4, 5 or 6. What carries it: the tests of decoding, one by one.
-use mathlib.Core.Path.{◌≡◌, refl, ap, sym, ◌∙◌}
+use mathlib.Core.Path.{◌≡◌, refl}
 use mathlib.Core.Bool.{Bool, true, false, cond}
 use mathlib.Core.List.{List}
 use Prim.Native.Nat.{ℕ, ◌+◌, ◌-◌}
-use native.Mathlib.Omega.{arith}
 use lib.ListN.{length, get_or}
 use lib.Dec.{leb, ltb}
 use Rattle.manual.specs.declared.Named.{Named}
 use Rattle.manual.specs.declared.Named.TheVariants.{Known, Unknown}
 use Rattle.manual.specs.declared.Form.{Form}
 use Rattle.manual.specs.declared.Operation.{Operation}
-use Rattle.manual.specs.declared.Instruction.{Instruction}
-use Rattle.manual.specs.declared.Stop.{Stop}
 use Rattle.manual.specs.declared.Stop.TheVariants.{CutShort, OpcodeUnknown, QRefused, OperandOutside, DigitRefused, Supervisor}
 use Rattle.manual.specs.declared.Decoded.{Decoded}
 use Rattle.manual.specs.declared.Decoded.TheVariants.{Found, NotFound}

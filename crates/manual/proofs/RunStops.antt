@@ -1,16 +1,11 @@
 -- A run that stopped stands before the instruction that stops: one step from where it ended gives the same answer, so the table of a step's numbers is the run's too.
 -- What carries it: a stop keeps machine and storage.
-use mathlib.Core.Path.{◌≡◌, refl, ap, sym, ◌∙◌}
-use mathlib.Core.Bool.{Bool, true, false}
+use mathlib.Core.Path.{◌≡◌, refl, ap, ◌∙◌}
 use mathlib.Core.List.{List}
-use mathlib.Core.Logic.{◌↔◌}
-use Prim.Native.Nat.{ℕ, zero, suc, ◌≤◌, ◌<◌}
-use native.Mathlib.Omega.{arith}
-use lib.ListN.{length}
+use Prim.Native.Nat.{ℕ, zero, suc}
 use Rattle.manual.specs.declared.Machine.{Machine}
 use Rattle.manual.specs.declared.Answer.{Answer}
 use Rattle.manual.specs.declared.Answer.TheVariants.{Executed, Refused, Stopped}
-use Rattle.manual.specs.TheMachine.{size_allowed, budget_allowed, status_allowed}
 use Rattle.manual.specs.Numbers.{number_of}
 use Rattle.manual.specs.Step.{inner_step}
 use Rattle.manual.specs.Run.{RanOutcome, more_of, more, turns_of, run_of}

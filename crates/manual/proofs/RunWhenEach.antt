@@ -3,7 +3,7 @@ use mathlib.Core.Path.{◌≡◌, refl, ap, sym, ◌∙◌, subst}
 use mathlib.Core.Bool.{Bool, true, false}
 use mathlib.Core.List.{List}
 use mathlib.Core.Logic.{◌↔◌}
-use Prim.Native.Nat.{ℕ, zero, suc, ◌+◌, ◌≤◌, ◌<◌}
+use Prim.Native.Nat.{ℕ, zero, suc, ◌≤◌, ◌<◌}
 use native.Mathlib.Omega.{arith}
 use native.Mathlib.Numerals.{add-one}
 use lib.ListN.{length}
@@ -15,7 +15,7 @@ use Rattle.manual.specs.TheMachine.{size_allowed, budget_allowed, status_allowed
 use Rattle.manual.specs.Numbers.{number_of}
 use Rattle.manual.specs.Step.{inner_step, step_of}
 use Rattle.manual.specs.Run.{RanOutcome, ran, turns_of, run_of}
-use Rattle.manual.specs.When.{Taken, When, Entered, after_steps, number_after, AllRan, RunWhen}
+use Rattle.manual.specs.When.{When, Entered, after_steps, number_after, AllRan, RunWhen}
 use Rattle.manual.proofs.Runs.{ran_on, stopped_at, run_entered}
 use Rattle.manual.proofs.Bounds.{Bounded}
 use Rattle.manual.proofs.Keeps.{inner_bounds, inner_length_keeps}

@@ -1,8 +1,7 @@
 -- Document 01's example of the deck runner, computed: the whole line. What carries it: the run stops at its second instruction, so a run of 2 is the run of a million.
-use Prim.Native.Nat.{ℕ, ◌≤◌}
+use Prim.Native.Nat.{ℕ}
 use native.Mathlib.Omega.{arith}
-use mathlib.Core.Path.{◌≡◌, refl, ap, sym, ◌∙◌}
-use mathlib.Core.Bool.{Bool, true, false, cond}
+use mathlib.Core.Path.{◌≡◌, refl, ◌∙◌}
 use mathlib.Core.List.{List, [], ◌∷◌, ◌++◌}
 use lib.ListN.{replicate}
 use Rattle.manual.specs.declared.Machine.{Machine}
@@ -16,9 +15,9 @@ use Rattle.manual.specs.Decode.{instruction_of, fetch}
 use Rattle.manual.specs.Immediate.{mvi}
 use Rattle.manual.specs.Branches.{call}
 use Rattle.manual.specs.Step.{exec, perform, follow, step, did, inner_step}
-use Rattle.manual.specs.Run.{RanOutcome, ran, more, turns_of, run_of}
-use Rattle.manual.specs.Deck.{machine_in, all_zero, first_answer, page_answer, later_answer, deck_answer, over, paged, storage_in, ReadOutcome, read_of}
-use Rattle.manual.specs.Runner.{decimal, run_line, number_line, too_large, budget, read_line, line_of}
+use Rattle.manual.specs.Run.{ran, more, turns_of, run_of}
+use Rattle.manual.specs.Deck.{machine_in, all_zero, first_answer, page_answer, later_answer, deck_answer, over, paged, storage_in, read_of}
+use Rattle.manual.specs.Runner.{decimal, run_line, number_line, too_large, budget, line_of}
 use Rattle.manual.proofs.Runs.{run_stays}
 
 -- one page, IAR 0000, all registers 0000, status 01, page beginning 3C F1 00 10 F4 00 02 then zeros

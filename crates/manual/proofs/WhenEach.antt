@@ -1,9 +1,9 @@
 -- A step gives a number exactly when the table's row for it holds. What carries it: a step's answer is that of the order of the stops, and decoding's tests one by one.
-use mathlib.Core.Path.{◌≡◌, refl, ap, sym, ◌∙◌, subst}
+use mathlib.Core.Path.{◌≡◌, refl, ap, ◌∙◌, subst}
 use mathlib.Core.Bool.{Bool, true, false, cond, ◌&&◌}
 use mathlib.Core.List.{List}
 use mathlib.Core.Logic.{◌↔◌}
-use Prim.Native.Nat.{ℕ, ◌+◌, ◌-◌, ◌/◌, ◌≤◌, ◌<◌}
+use Prim.Native.Nat.{ℕ, ◌+◌, ◌-◌, ◌/◌, ◌<◌}
 use lib.ListN.{length, get_or}
 use lib.Dec.{leb, ltb, eqb}
 use borrow.Author.Tests.{leb-true, leb-false, ltb-true, ltb-false, le-leb, lt-leb, lt-ltb, le-ltb}
@@ -27,7 +27,7 @@ use Rattle.manual.specs.Formats.{form_of, operation_of, allowed, reach, reach_ri
 use Rattle.manual.specs.Decode.{instruction_of, with_q, decode_named, decode_opcode, decode_of}
 use Rattle.manual.specs.Values.{all_digits, digits_of}
 use Rattle.manual.specs.Edit.{source_reach}
-use Rattle.manual.specs.Step.{step_of, inner_step}
+use Rattle.manual.specs.Step.{step_of}
 use Rattle.manual.specs.Stops.{fields_of, outside, further, barred, barred_in, barred_at}
 use Rattle.manual.specs.When.{Taken, opcode_at, length_at, Whole, When}
 use Rattle.manual.proofs.Answered.{answer_of, step_answer}

@@ -1,11 +1,11 @@
 -- BC, JC, LA, SVC.
-use Rattle.std.specs.Prelude.{Bool, true, false, cond, not, ℕ, ◌+◌, ◌/◌, ◌%◌, eqb}
+use Rattle.std.specs.Prelude.{Bool, cond, not, ℕ, ◌%◌, eqb}
 use Rattle.std.specs.Int.Bits.{bit_and}
 use Rattle.manual.specs.declared.Fields.{Fields}
 use Rattle.manual.specs.declared.Register.TheVariants.{Arr}
 use Rattle.manual.specs.declared.Stop.TheVariants.{Supervisor}
 use Rattle.manual.specs.Places.{reg}
-use Rattle.manual.specs.Programs.{Prog, ret, wr, Out, stop, go, Given, Rule}
+use Rattle.manual.specs.Programs.{ret, wr, stop, go, Rule}
 use Rattle.manual.specs.TheMachine.{test_false, decimal_overflow, is_on, turn_off}
 use Rattle.manual.specs.Registers.{register_named}
 

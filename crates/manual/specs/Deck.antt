@@ -7,7 +7,6 @@ use Rattle.manual.specs.declared.DeckFault.TheVariants.{SizeNotTheDecks, StatusN
 use Rattle.manual.specs.declared.ReadAnswer.{ReadAnswer}
 use Rattle.manual.specs.declared.ReadAnswer.TheVariants.{DeckRead, DeckRefused}
 use Rattle.manual.specs.declared.DeckOut.{DeckOut}
-use Rattle.manual.specs.declared.WriteFault.{WriteFault}
 use Rattle.manual.specs.declared.WriteFault.TheVariants.{SizeNotAllowed, StatusNotWritable, OutputShort}
 use Rattle.manual.specs.declared.WriteAnswer.{WriteAnswer}
 use Rattle.manual.specs.declared.WriteAnswer.TheVariants.{DeckWritten, NotWritten}

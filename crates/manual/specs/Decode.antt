@@ -1,5 +1,5 @@
 -- Decoding answers either an instruction or a stop.
-use Rattle.std.specs.Prelude.{ℕ, ◌+◌, ◌-◌, ◌*◌, ◌/◌, ◌%◌, Bool, true, false, cond, List, ◌∷◌, length, get_or, ltb, leb}
+use Rattle.std.specs.Prelude.{ℕ, ◌+◌, ◌-◌, ◌*◌, ◌/◌, ◌%◌, cond, List, ◌∷◌, length, get_or, ltb, leb}
 use Rattle.manual.specs.declared.Operation.{Operation}
 use Rattle.manual.specs.declared.Named.{Named}
 use Rattle.manual.specs.declared.Named.TheVariants.{Known, Unknown}

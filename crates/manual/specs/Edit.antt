@@ -1,11 +1,11 @@
 -- MVX, ED, ITC.
-use Rattle.std.specs.Prelude.{Bool, true, false, cond, ◌&&◌, List, [], ◌∷◌, ℕ, zero, suc, ◌+◌, ◌-◌, ◌*◌, ◌/◌, ◌%◌, eqb, leb, length, get_or, drop, ℤ}
+use Rattle.std.specs.Prelude.{Bool, cond, ◌&&◌, List, [], ◌∷◌, ℕ, zero, suc, ◌+◌, ◌-◌, ◌*◌, ◌%◌, eqb, leb, get_or, drop}
 use Rattle.manual.specs.declared.Fields.{Fields}
 use Rattle.manual.specs.declared.Register.TheVariants.{Arr}
 use Rattle.manual.specs.declared.Way.{Way}
 use Rattle.manual.specs.declared.Way.TheVariants.{Clear}
 use Rattle.manual.specs.Places.{mem, reg}
-use Rattle.manual.specs.Programs.{Prog, ret, rd, wr, ◌>>=◌, ◌>>◌, leftward, Out, go, Given, Rule, unless, and_then}
+use Rattle.manual.specs.Programs.{Prog, ret, rd, wr, ◌>>=◌, ◌>>◌, leftward, go, Rule, unless, and_then}
 use Rattle.manual.specs.TheMachine.{set_order}
 use Rattle.manual.specs.Formats.{reach, reach_right}
 use Rattle.manual.specs.Values.{digit, zone, value, digits_of, sign_order}

@@ -1,13 +1,12 @@
 -- TBN, TBF, SBN, SBF, MVI, CLI, SLI act on one byte, with Q as a mask or as the other byte.
-use Rattle.std.specs.Prelude.{Bool, true, false, cond, ℕ, ◌+◌, ◌-◌, ◌%◌, eqb}
+use Rattle.std.specs.Prelude.{cond, ℕ, ◌-◌, eqb}
 use Rattle.std.specs.Int.Bits.{bit_and, bit_or}
 use Rattle.manual.specs.declared.Fields.{Fields}
-use Rattle.manual.specs.declared.Columns.{Columns}
 use Rattle.manual.specs.Places.{mem}
-use Rattle.manual.specs.Programs.{Prog, ret, rd, wr, Out, go, Given, Rule, unless}
+use Rattle.manual.specs.Programs.{ret, rd, wr, go, Rule, unless}
 use Rattle.manual.specs.TheMachine.{test_false, turn_on, set_order, order_of}
 use Rattle.manual.specs.Formats.{reach}
-use Rattle.manual.specs.Logical.{Column, subtracted, fresh, onward, difference_status}
+use Rattle.manual.specs.Logical.{subtracted, fresh, onward, difference_status}
 
 -- the byte is only looked at, for a status
 abbrev pub tested : (ℕ → ℕ) → Fields → Rule

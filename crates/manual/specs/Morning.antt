@@ -1,7 +1,6 @@
 -- The table of the morning check, as one theorem: each row is a whole step, from the instruction bytes in storage to every register and byte after it.
 use Rattle.std.specs.Prelude.{◌≡◌, refl, List, [], ◌∷◌, ◌++◌, ℕ, ◌-◌, length, replicate}
 use Rattle.manual.specs.declared.Machine.{Machine}
-use Rattle.manual.specs.declared.Answer.{Answer}
 use Rattle.manual.specs.declared.Answer.TheVariants.{Executed, Stopped}
 use Rattle.manual.specs.declared.Stop.TheVariants.{OperandOutside}
 use Rattle.manual.specs.Programs.{val, fin, ◌>>=◌, rightward, leftward, unless, and_then}
@@ -14,7 +13,7 @@ use Rattle.manual.specs.Edit.{count20, source_reach, put_edited, ed, scan, itc}
 use Rattle.manual.specs.Logical.{copy, mvc, columns, sum_status, alc}
 use Rattle.manual.specs.Registers.{register_named, load}
 use Rattle.manual.specs.Immediate.{cli}
-use Rattle.manual.specs.Step.{Outcome, ended, exec, perform, follow, step, did, inner_step, step_of}
+use Rattle.manual.specs.Step.{ended, exec, perform, follow, step, did, inner_step, step_of}
 
 -- zeros up to the address at, where the bytes come next, and zeros up to the size
 abbrev at : ℕ → ℕ → List ℕ → List ℕ → List ℕ

@@ -1,11 +1,11 @@
 -- ST, L, A, S pair a register with two storage bytes.
-use Rattle.std.specs.Prelude.{Bool, true, false, cond, ℕ, ◌+◌, ◌-◌, ◌*◌, ◌/◌, ◌%◌, eqb, ltb}
+use Rattle.std.specs.Prelude.{Bool, cond, ℕ, ◌+◌, ◌-◌, ◌*◌, ◌/◌, ◌%◌, eqb, ltb}
 use Rattle.manual.specs.declared.Fields.{Fields}
 use Rattle.manual.specs.declared.Columns.{Columns}
 use Rattle.manual.specs.declared.Register.{Register}
 use Rattle.manual.specs.declared.Register.TheVariants.{Arr, Xr1, Xr2, Work}
 use Rattle.manual.specs.Places.{mem, reg}
-use Rattle.manual.specs.Programs.{Prog, ret, rd, wr, Out, go, Given, Rule, unless}
+use Rattle.manual.specs.Programs.{Prog, ret, rd, wr, Out, go, Rule, unless}
 use Rattle.manual.specs.TheMachine.{equal, low, high, is_on, set_order}
 use Rattle.manual.specs.Formats.{reach}
 use Rattle.manual.specs.Logical.{sum_status, difference_status}

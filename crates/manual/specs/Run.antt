@@ -1,12 +1,10 @@
 -- The run.
-use Rattle.std.specs.Prelude.{◌≡◌, Bool, true, false, cond, List, ℕ, zero, suc, ◌+◌, length}
+use Rattle.std.specs.Prelude.{◌≡◌, cond, List, ℕ, zero, suc, ◌+◌, length}
 use Rattle.std.proofs.Common.{ap, sym, ◌∙◌}
 use Rattle.manual.specs.declared.Machine.{Machine}
 use Rattle.manual.specs.declared.Answer.{Answer}
 use Rattle.manual.specs.declared.Answer.TheVariants.{Executed, Refused, Stopped}
 use Rattle.manual.specs.declared.Refusal.TheVariants.{SizeRefused, BudgetRefused, StatusRefused}
-use Rattle.manual.specs.declared.Stop.{Stop}
-use Rattle.manual.specs.declared.Ended.{Ended}
 use Rattle.manual.specs.declared.Ran.{Ran}
 use Rattle.manual.specs.TheMachine.{size_allowed, budget_allowed, status_allowed}
 use Rattle.manual.specs.Step.{Outcome, inner_step}

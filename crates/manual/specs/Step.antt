@@ -1,5 +1,5 @@
 -- One step: what it answers, the machine and the storage after it.
-use Rattle.std.specs.Prelude.{◌≡◌, Bool, true, false, cond, List, ℕ, ◌+◌, ◌-◌, ◌%◌, length}
+use Rattle.std.specs.Prelude.{◌≡◌, cond, List, ℕ, ◌+◌, ◌-◌, ◌%◌, length}
 use Rattle.std.proofs.Common.{ap, sym, ◌∙◌}
 use Rattle.manual.specs.declared.Machine.{Machine}
 use Rattle.manual.specs.declared.Register.TheVariants.{Arr, Xr1, Xr2}
@@ -15,7 +15,7 @@ use Rattle.manual.specs.declared.Refusal.TheVariants.{SizeRefused, StatusRefused
 use Rattle.manual.specs.declared.Decoded.{Decoded}
 use Rattle.manual.specs.declared.Decoded.TheVariants.{Found, NotFound}
 use Rattle.manual.specs.declared.Stepped.{Stepped}
-use Rattle.manual.specs.Places.{Place, reg, State, state}
+use Rattle.manual.specs.Places.{reg, State, state}
 use Rattle.manual.specs.Programs.{Prog, ret, rd, val, fin, ◌>>=◌, Out, stop, go, Given, Rule}
 use Rattle.manual.specs.TheMachine.{size_allowed, status_allowed}
 use Rattle.manual.specs.Decode.{fetch}

@@ -1,5 +1,5 @@
 -- The order of the stops in a step: 4, 5, 4, 6 in decoding, then 7, 8, 9 as listed here. Each can be read without the programs.
-use Rattle.std.specs.Prelude.{Bool, true, false, cond, List, ℕ, ◌+◌, ◌-◌, length}
+use Rattle.std.specs.Prelude.{List, ℕ, ◌+◌, ◌-◌, length}
 use Rattle.manual.specs.declared.Machine.{Machine}
 use Rattle.manual.specs.declared.Operation.{Operation}
 use Rattle.manual.specs.declared.Operation.TheVariants.{Zaz, Az, Sz, Mvx, Ed, Itc, Mvc, Clc, Alc, Slc, St, L, A, S, Tbn, Tbf, Sbn, Sbf, Mvi, Cli, Sli, Bc, Jc, La, Svc}
@@ -7,7 +7,6 @@ use Rattle.manual.specs.declared.Base.{Base}
 use Rattle.manual.specs.declared.Base.TheVariants.{Absent, Direct, FromXr1, FromXr2, FromArr, Forward, Backward}
 use Rattle.manual.specs.declared.Instruction.{Instruction}
 use Rattle.manual.specs.declared.Fields.{Fields}
-use Rattle.manual.specs.declared.Stop.{Stop}
 use Rattle.manual.specs.declared.Stop.TheVariants.{Supervisor}
 use Rattle.manual.specs.declared.Way.{Way}
 use Rattle.manual.specs.declared.Way.TheVariants.{Clear, Barred}

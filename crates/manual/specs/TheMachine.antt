@@ -1,5 +1,5 @@
 -- The machine: storage sizes, the step budget, and the status byte.
-use Rattle.std.specs.Prelude.{Bool, true, false, cond, not, ◌&&◌, ℕ, ◌+◌, ◌-◌, ◌*◌, ◌/◌, ◌%◌, eqb, leb, ltb}
+use Rattle.std.specs.Prelude.{Bool, cond, ◌&&◌, ℕ, ◌+◌, ◌-◌, ◌*◌, ◌/◌, ◌%◌, eqb, leb, ltb}
 
 -- main storage has 256 to 65,536 bytes, a multiple of 256
 unfoldable pub size_allowed : ℕ → Bool

@@ -5,20 +5,20 @@ use mathlib.Core.List.{List}
 use Prim.Native.Nat.{ℕ, ◌+◌, ◌-◌, ◌≤◌, ◌<◌}
 use native.Mathlib.Omega.{arith}
 use lib.Dec.{leb, ltb}
-use borrow.Author.Tests.{lt-ltb, le-ltb, le-leb, lt-leb}
+use borrow.Author.Tests.{le-leb, lt-leb}
 use Rattle.manual.specs.declared.Machine.{Machine}
-use Rattle.manual.specs.declared.Answer.TheVariants.{Executed, Stopped}
+use Rattle.manual.specs.declared.Answer.TheVariants.{Stopped}
 use Rattle.manual.specs.declared.Stop.{Stop}
 use Rattle.manual.specs.declared.Stop.TheVariants.{CutShort, OpcodeUnknown, QRefused, OperandOutside, DigitRefused, Supervisor}
 use Rattle.manual.specs.declared.Way.{Way}
 use Rattle.manual.specs.declared.Way.TheVariants.{Clear, Barred}
-use Rattle.manual.specs.Places.{State, state}
+use Rattle.manual.specs.Places.{State}
 use Rattle.manual.specs.Programs.{Prog, Out, clear, unless, and_then}
 use Rattle.manual.specs.Formats.{reach, reach_right}
-use Rattle.manual.specs.Step.{Outcome, ended}
+use Rattle.manual.specs.Step.{ended}
 use Rattle.manual.proofs.Running.{from, from_stop, both_clear, reach_clear}
 use Rattle.parts.specs.declared.End.{End}
-use Rattle.parts.specs.declared.End.TheVariants.{Gone, Short, NoOpcode, BadQ, Outside, BadDigit, Called}
+use Rattle.parts.specs.declared.End.TheVariants.{Gone, Outside}
 use Rattle.parts.specs.Inside.{end_of, is_gone, answer_at}
 
 -- ---- the tests

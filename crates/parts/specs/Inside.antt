@@ -4,7 +4,6 @@ use Rattle.manual.specs.declared.Machine.{Machine}
 use Rattle.manual.specs.declared.Fields.{Fields}
 use Rattle.manual.specs.declared.Answer.{Answer}
 use Rattle.manual.specs.declared.Answer.TheVariants.{Executed, Stopped}
-use Rattle.manual.specs.declared.Stop.{Stop}
 use Rattle.manual.specs.declared.Stop.TheVariants.{CutShort, OpcodeUnknown, QRefused, OperandOutside, DigitRefused, Supervisor}
 use Rattle.manual.specs.declared.Way.{Way}
 use Rattle.manual.specs.declared.Way.TheVariants.{Clear, Barred}

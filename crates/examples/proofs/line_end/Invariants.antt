@@ -1,3 +1,4 @@
+-- The place looked at stays in the text, at or after where the look began.
 use Rattle.std.proofs.Common.{◌≤◌, ◌-◌, length}
 use Rattle.examples.proofs.line_end.Given as goal
 

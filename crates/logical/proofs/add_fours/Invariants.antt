@@ -1,9 +1,9 @@
+-- What is left to add gives what the whole sum gives.
 use Rattle.std.proofs.Common.{◌≡◌, ◌-◌, ◌*◌, ◌≤◌, length}
 use Rattle.manual.specs.Logical.{columns, added, fresh}
 use Rattle.logical.proofs.Turns.{Leads}
 use Rattle.logical.proofs.add_fours.Given as goal
 
--- what is left to add gives what the whole sum gives
 abbrev pub invariant-loop-i : goal.invariant-loop-i
 invariant-loop-i l =
     record {

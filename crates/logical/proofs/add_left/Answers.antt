@@ -1,3 +1,4 @@
+-- The columns by fours and then the ones that are left are all the columns (`columns_on`).
 use Rattle.std.proofs.Common.{◌*◌}
 use Rattle.manual.specs.Logical.{added}
 use Rattle.logical.proofs.Fours.{columns_on}

@@ -1,3 +1,4 @@
+-- At the last byte what was told of the bytes so far is told of the fields (`told_end`).
 use Rattle.std.proofs.Common.{arith}
 use Rattle.logical.proofs.TwoFields.{told_end}
 use Rattle.logical.proofs.same.Goals as goal

@@ -1,3 +1,4 @@
+-- The leftmost byte that differs gives the order of the fields (`order_at`), since those to its left are the same.
 use Rattle.std.proofs.Common.{◌-◌, arith}
 use Rattle.manual.proofs.FieldBytes.{Bytes}
 use Rattle.logical.proofs.TwoFields.{same_left, order_at}

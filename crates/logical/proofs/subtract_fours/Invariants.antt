@@ -1,3 +1,4 @@
+-- What is left to subtract gives what the whole difference gives.
 use Rattle.std.proofs.Common.{◌≡◌, ◌-◌, ◌*◌, ◌≤◌, length}
 use Rattle.manual.specs.Logical.{columns, subtracted, fresh}
 use Rattle.manual.proofs.FieldBytes.{Bytes}
@@ -5,7 +6,6 @@ use Rattle.logical.proofs.Turns.{Leads}
 use Rattle.logical.proofs.Fours.{lent_on}
 use Rattle.logical.proofs.subtract_fours.Given as goal
 
--- what is left to subtract gives what the whole difference gives
 abbrev pub invariant-loop-i : goal.invariant-loop-i
 invariant-loop-i l =
     record {

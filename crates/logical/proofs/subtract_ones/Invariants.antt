@@ -1,9 +1,9 @@
+-- What is left to subtract gives what the whole difference gives.
 use Rattle.std.proofs.Common.{◌≡◌, ◌-◌, ◌≤◌, length}
 use Rattle.manual.specs.Logical.{columns, subtracted}
 use Rattle.logical.proofs.Turns.{Leads}
 use Rattle.logical.proofs.subtract_ones.Given as goal
 
--- what is left to subtract gives what the whole difference gives
 abbrev pub invariant-loop-i : goal.invariant-loop-i
 invariant-loop-i l =
     record {

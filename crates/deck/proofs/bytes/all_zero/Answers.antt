@@ -1,3 +1,4 @@
+-- At the last byte the test told is that of the whole page (`zero_end`).
 use Rattle.deck.proofs.Zeros.{zero_end}
 use Rattle.deck.proofs.bytes.all_zero.Goals as goal
 

@@ -1,3 +1,4 @@
+-- A byte more of the source is laid over the front (`paste-suc`); at its end all of it is (`paste_all`).
 use Rattle.std.proofs.Common.{length, ◌≡◌, ◌∙◌, arith}
 use native.Mathlib.Numerals.{add-one}
 use lib.Seq.{paste-suc}

@@ -1,3 +1,4 @@
+-- Where the pages of an accepted deck stand and fit: the laws of `Laying` (`laying_in`, `laying_fits`, `laying_room`, `laying_end`).
 use Rattle.std.proofs.Common.{sym, arith}
 use Rattle.deck.proofs.Reading.{laying_in, laying_fits, laying_room, laying_end, page_span}
 use Rattle.deck.proofs.reader.lay_pages.Goals as goal

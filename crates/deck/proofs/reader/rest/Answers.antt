@@ -1,3 +1,4 @@
+-- What the code finds at a record is the rule's answer there (`found`), and so what is left of the deck gives the whole (`reading_starts` and on).
 use Rattle.std.proofs.Common.{◌≡◌, ℕ, ◌-◌, ◌≤◌, List, length, take, drop, sym, ◌∙◌, arith}
 use Rattle.manual.specs.declared.ReadAnswer.{ReadAnswer}
 use Rattle.manual.specs.declared.ReadAnswer.TheVariants.{DeckRead}
