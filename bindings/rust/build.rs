@@ -9,9 +9,12 @@ fn main() {
         Some(dir) => PathBuf::from(dir),
         None => manifest.join("../../target/lib"),
     };
-    let archive = dir.join("libaqtovmesh.a");
-    assert!(archive.exists(), "no libaqtovmesh.a in {}: run `make lib`, or name its directory in AQTOVMESH_LIB", dir.display());
-    println!("cargo:rerun-if-changed={}", archive.display());
+    // `rt lib` names it after its crate, `make lib` after the product
+    let names = ["aqtovmesh", "host"];
+    let Some(name) = names.iter().find(|name| dir.join(format!("lib{name}.a")).exists()) else {
+        panic!("no libaqtovmesh.a or libhost.a in {}: run `make lib`, or name its directory in AQTOVMESH_LIB", dir.display());
+    };
+    println!("cargo:rerun-if-changed={}", dir.join(format!("lib{name}.a")).display());
     println!("cargo:rustc-link-search=native={}", dir.display());
-    println!("cargo:rustc-link-lib=static=aqtovmesh");
+    println!("cargo:rustc-link-lib=static={name}");
 }
