@@ -1,22 +1,103 @@
--- The invariants of the reader's two passes: what is left of the deck gives the whole.
--- What carries it: one record and then more (`first_more`, `later_more`).
+-- The tests of a record as the code makes them, and the invariants of the reader's two passes: what is left of the deck gives the whole.
+-- What carries it: one record and then more (`asked_more`, `first_more`, `later_more`).
 use Prim.Native.Nat.{ℕ, suc, ◌+◌, ◌≤◌, ◌<◌, ◌-◌, ◌*◌, ◌/◌, pred}
-use mathlib.Core.Bool.{cond}
+use mathlib.Core.Bool.{Bool, true, false, cond, not, beq}
 use mathlib.Core.List.{List}
 use mathlib.Core.Logic.{◌⊎◌, ⊎_elim}
 use mathlib.Core.Path.{◌≡◌, refl, ap, ◌∙◌}
 use native.Mathlib.Nat.{add-zero}
 use native.Mathlib.Omega.{arith}
-use borrow.Author.Tests.{ne_eqb}
-use lib.Dec.{eqb}
+use borrow.Author.Tests.{ne_eqb, lt-ltb, lt-leb, le-leb, not-true, not-false}
+use lib.Dec.{eqb, ltb}
 use lib.ListN.{length, get_or, take, drop, length-drop}
 use lib.Seq.{length-take-le, drop-drop, take_all, get_or-drop}
 use Rattle.manual.specs.declared.DeckFault.{DeckFault}
+use Rattle.manual.specs.declared.DeckFault.TheVariants.{SizeNotTheDecks, StatusNotAllowed, EndsEarly, KindUnknown, OutOfOrder, BytesAfterEnd}
 use Rattle.manual.specs.declared.ReadAnswer.{ReadAnswer}
 use Rattle.manual.specs.declared.ReadAnswer.TheVariants.{DeckRead, DeckRefused}
-use Rattle.manual.specs.Deck.{first_answer, later_answer, deck_answer, over, paged}
+use Rattle.manual.specs.TheMachine.{status_allowed}
+use Rattle.manual.specs.Deck.{record_length, provided, record_answer, first_answer, page_answer, later_answer, deck_answer, over, paged}
 use Rattle.manual.proofs.Pages.{length_over}
-use Rattle.manual.proofs.DeckRecords.{and_more, first_more, PageAt, EndAt, later_record, later_is, later_at, later_more, accepted, PageThen, later_cases}
+use Rattle.manual.proofs.DeckRecords.{asked, asked_good, asked_more, and_more, first_more, PageAt, EndAt, later_record, later_is, later_at, later_more, accepted, PageThen, later_cases}
+
+-- ---- the tests of a record
+
+-- a first record is to be of kind 01, a later one not
+in_order : (one first : Bool) → cond first one (not one) ≡ beq one first
+in_order true true = refl
+in_order true false = refl
+in_order false true = refl
+in_order false false = refl
+
+-- what each record is asked first, test by test
+module _ (d : List ℕ) (first : Bool) where
+  abbrev order : Bool
+  order = cond first (eqb (get_or d 0 0) 1) (not (eqb (get_or d 0 0) 1))
+
+  pub asked_none : length d ≡ 0 → DeckRefused EndsEarly ≡ record_answer order d DeckRead
+  asked_none e = rw e
+
+  module _ (some : length d ≡ 0 → ⊥) where
+    some_left : ltb 0 (length d) ≡ true
+    some_left = lt-ltb 0 (length d) (omega arith)
+
+    pub asked_low : get_or d 0 0 < 1 → DeckRefused KindUnknown ≡ record_answer order d DeckRead
+    asked_low h = simp (some_left, lt-leb _ _ h)
+
+    module _ (low : 1 ≤ get_or d 0 0) where
+      pub asked_high : 3 < get_or d 0 0 → DeckRefused KindUnknown ≡ record_answer order d DeckRead
+      asked_high h = simp (some_left, le-leb _ _ low, lt-leb _ _ h)
+
+      module _ (high : get_or d 0 0 ≤ 3) where
+        pub asked_order : not (beq (eqb (get_or d 0 0) 1) first) ≡ true → DeckRefused OutOfOrder ≡ record_answer order d DeckRead
+        asked_order h = simp (some_left, le-leb _ _ low, le-leb _ _ high, in_order (eqb (get_or d 0 0) 1) first ∙ not-true _ h)
+
+        module _ (kept : not (beq (eqb (get_or d 0 0) 1) first) ≡ false) where
+          in_its_order : order ≡ true
+          in_its_order = in_order (eqb (get_or d 0 0) 1) first ∙ not-false _ kept
+
+          pub asked_short : length d < record_length (get_or d 0 0) → DeckRefused EndsEarly ≡ record_answer order d DeckRead
+          asked_short h = simp (some_left, le-leb _ _ low, le-leb _ _ high, in_its_order, lt-leb _ _ h)
+
+          pub asked_whole : record_length (get_or d 0 0) ≤ length d → DeckRead ≡ record_answer order d DeckRead
+          asked_whole h = simp (some_left, le-leb _ _ low, le-leb _ _ high, in_its_order, le-leb _ _ h)
+
+-- what a record is asked, and then more
+module _ (b : Bool) (d : List ℕ) (more : ReadAnswer) where
+  asked_open : record_answer b d DeckRead ≡ DeckRead → record_answer b d more ≡ more
+  asked_open e = asked_good b d more (asked b d DeckRead e).0
+
+  asked_shut : (x : DeckFault) → record_answer b d DeckRead ≡ DeckRefused x → record_answer b d more ≡ DeckRefused x
+  asked_shut x e = asked_more b d more ∙ ap (λ (a : ReadAnswer). and_more a more) e
+
+module _ (d : List ℕ) (size : ℕ) where
+  pub first_open : record_answer (eqb (get_or d 0 0) 1) d DeckRead ≡ DeckRead
+      → first_answer d size DeckRead ≡ provided (status_allowed (get_or d 18 0)) StatusNotAllowed (provided (eqb ((get_or d 1 0 + 1) * 256) size) SizeNotTheDecks DeckRead)
+  unfolding first_answer
+  first_open e = asked_open (eqb (get_or d 0 0) 1) d _ e
+
+  pub first_shut : (x : DeckFault) → record_answer (eqb (get_or d 0 0) 1) d DeckRead ≡ DeckRefused x → first_answer d size DeckRead ≡ DeckRefused x
+  unfolding first_answer
+  first_shut x e = asked_shut (eqb (get_or d 0 0) 1) d _ x e
+
+pub first_whole : (d : List ℕ) → record_answer (eqb (get_or d 0 0) 1) d DeckRead ≡ DeckRead → 19 ≤ length d
+first_whole d e = let a = (asked (eqb (get_or d 0 0) 1) d DeckRead e).0 in rw a.order at a.whole
+
+module _ (d : List ℕ) (pages next : ℕ) where
+  pub later_open : record_answer (not (eqb (get_or d 0 0) 1)) d DeckRead ≡ DeckRead
+      → later_record d pages next DeckRead ≡ cond (eqb (get_or d 0 0) 2) (page_answer d pages next DeckRead) (provided (eqb (length d) 1) BytesAfterEnd DeckRead)
+  unfolding later_record
+  later_open e = asked_open (not (eqb (get_or d 0 0) 1)) d _ e
+
+  pub later_shut : (x : DeckFault) → record_answer (not (eqb (get_or d 0 0) 1)) d DeckRead ≡ DeckRefused x → later_record d pages next DeckRead ≡ DeckRefused x
+  unfolding later_record
+  later_shut x e = asked_shut (not (eqb (get_or d 0 0) 1)) d _ x e
+
+pub later_some : (d : List ℕ) → record_answer (not (eqb (get_or d 0 0) 1)) d DeckRead ≡ DeckRead → 0 < length d
+later_some d e = (asked (not (eqb (get_or d 0 0) 1)) d DeckRead e).0.some
+
+pub later_whole : (d : List ℕ) → record_answer (not (eqb (get_or d 0 0) 1)) d DeckRead ≡ DeckRead → get_or d 0 0 ≡ 2 → 258 ≤ length d
+later_whole d e k = rw k at (asked (not (eqb (get_or d 0 0) 1)) d DeckRead e).0.whole
 
 -- ---- the first record, and then the rest
 

@@ -1,5 +1,6 @@
 -- Four columns of ALC or SLC at once. What carries it: the result is the number of a sum or difference, and its bytes are that number's.
 use mathlib.Core.Path.{◌≡◌, refl, sym, ◌∙◌, ap}
+use mathlib.Core.Logic.{◌⊎◌, inl, inr}
 use mathlib.Core.Bool.{Bool, true, ◌&&◌}
 use mathlib.Core.List.{List}
 use Prim.Native.Nat.{ℕ, zero, suc, ◌+◌, ◌-◌, ◌*◌, ◌/◌, ◌%◌, ◌<◌, ◌≤◌}
@@ -88,6 +89,14 @@ module _ (column : ℕ → ℕ → ℕ → Column) where
       let z : n - k + k ≡ n = omega arith in
       rw z at (columns_join k (n - k) a b c s v u (rw (x, y) g)) m
 
+  left_fours : (a i : ℕ) → a - 4 * (i + 1) ≡ a - 4 * i - 4
+  left_fours a i = omega arith
+
+  pub columns_fours : (n i a b : ℕ) (c d e : Columns) (s t r : List ℕ) → i < n → Gives (columns column 4 (a - 4 * i) (b - 4 * i) c) s e r → d ≡ e → t ≡ r
+      → Onto (columns column (4 * n - 4 * i) (a - 4 * i) (b - 4 * i) c) s (columns column (4 * n - 4 * (i + 1)) (a - 4 * (i + 1)) (b - 4 * (i + 1)) d) t
+  columns_fours n i a b c d e s t r h k x y =
+      rw (left_fours (4 * n) i, left_fours a i, left_fours b i, x, y) (columns_on (4 * n - 4 * i) 4 (a - 4 * i) (b - 4 * i) c e s r (omega arith) k)
+
 -- ---- four at once
 
 -- a number below 256 to the 4, and what it is carried over
@@ -98,6 +107,12 @@ parted r o t e h = (omega arith, omega arith)
 lent : (r o x y c t : ℕ) → r + (y + c) ≡ x + o * 4294967296 → r < 4294967296 → y < 4294967296 → c ≤ 1 → o ≤ 1 → t ≡ x + (4294967295 - y) + (1 - c)
     → (t % 4294967296 ≡ r) × (1 - t / 4294967296 ≡ o)
 lent r o x y c t e h k l z f = let g : r + (1 - o) * 4294967296 ≡ t = omega arith in let p = parted r (1 - o) t g h in (p.0, omega arith)
+
+-- operand 2 is as far from operand 1 in each four columns
+pub unharmed_left : (n i a b : ℕ) → i < n → 4 * n ≤ a + 1 → (n ≡ 0) ⊎ Unharmed 4 a b → Unharmed 4 (a - 4 * i) (b - 4 * i)
+unharmed_left n i a b h k (inl e) = absurd (omega arith)
+unharmed_left n i a b h k (inr (inl e)) = inl (omega arith)
+unharmed_left n i a b h k (inr (inr e)) = inr (omega arith)
 
 module _ (s : List ℕ) (a b : ℕ) (l : a < length s) (h : 4 ≤ a + 1) (k : 4 ≤ b + 1) (u : Unharmed 4 a b) where
   pub four_added : (c : Columns) (t : ℕ) → t ≡ number (bytes_of s 4 a) + number (bytes_of s 4 b) + c.over

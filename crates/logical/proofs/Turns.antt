@@ -97,3 +97,8 @@ module _ (p : Prog Columns) (r : List ℕ) where
 -- what isn't borrowed, twice
 pub unborrowed : (up : ℕ) → up ≤ 1 → 1 - (1 - up) ≡ up
 unborrowed up h = omega arith
+
+module _ (column : ℕ → ℕ → ℕ → Column) where
+  pub columns_end : (n i a b : ℕ) (c : Columns) (s : List ℕ) → n ≤ i → Gives (columns column (n - i) a b c) s c s
+  unfolding val fin columns
+  columns_end n i a b c s h = let e : n - i ≡ 0 = omega arith in rw (e, columns) (λ m. (refl, refl))

@@ -43,6 +43,11 @@ unfolding run_line
 run_text m n k q r h {l₃ = l₃} p₀ p₁ p₂ p₃ p₄ p₅ p₆ p₇ p₈ =
     rw (p₈, p₇, p₆, p₅, p₄, append_assoc l₃ (blank ∷ []) (decimal 8 k), p₃, p₂, p₁, p₀, decimal_last 8 n (suc-ne-zero 7) h)
 
+-- and their lengths
+pub run_length :
+    {n₀ n₁ n₂ n₃ n₄ n₅ n₆ n₇ : ℕ} → n₀ ≡ 0 → n₁ ≡ n₀ + 1 → n₂ ≡ n₁ + 40 → n₃ ≡ n₂ + 3 → n₄ ≡ n₃ + 1 → n₅ ≤ n₄ + 8 → n₆ ≡ n₅ + 3 → n₇ ≡ n₆ + 3 → n₇ + 1 ≤ 64
+run_length p₀ p₁ p₂ p₃ p₄ p₅ p₆ p₇ = omega arith
+
 -- ---- the zeros behind a text
 
 drop_zeros : (k : ℕ) → drop {A = ℕ} 1 (replicate k 0) ≡ replicate (k - 1) 0

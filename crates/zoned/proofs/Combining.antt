@@ -178,6 +178,9 @@ module _ (s : List ℕ) (q a1 a2 status : ℕ) (ready : Ready s q a1 a2 status) 
     put_size : size (bytes_of t (l1 q) a1) ≡ size (bytes_of d (l1 q) 30)
     put_size = size_read t (l1 q) a1 (size (bytes_of d (l1 q) 30)) put_digit ∙ mod-eq_of_lt (size_below d (l1 q) 30 copy_digits)
 
+    pub put_inside : a1 < length t
+    put_inside = rw (f, written_length) ready.inside_one
+
     pub put_zoned_lem : (u : List ℕ) → u ≡ zoned_bytes t (l1 q) a1 false (size (bytes_of t (l1 q) a1)) → u ≡ zoned_bytes s (l1 q) a1 false (size (bytes_of d (l1 q) 30))
     put_zoned_lem u h =
         h ∙ ap (λ (k : ℕ). zoned_bytes t (l1 q) a1 false k) put_size ∙ ap (λ (v : List ℕ). zoned_bytes v (l1 q) a1 false (size (bytes_of d (l1 q) 30))) f ∙

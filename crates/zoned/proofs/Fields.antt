@@ -2,13 +2,15 @@
 use mathlib.Core.Path.{◌≡◌, refl, sym, ap, ◌∙◌}
 use mathlib.Core.Bool.{Bool, true, false, not, false≢true}
 use mathlib.Core.List.{List}
-use mathlib.Core.Logic.{◌↔◌, ◌⊎◌, inl, inr}
+use mathlib.Core.Logic.{◌↔◌, ◌⊎◌, inl, inr, ⊎_elim}
 use Prim.Native.Nat.{ℕ, ◌+◌, ◌-◌, ◌%◌, ◌^◌, ◌≤◌, ◌<◌}
 use native.Mathlib.Decide.{dec_lt, dec_le}
-use native.Mathlib.Nat.{zero-div, zero-mod}
+use native.Mathlib.Nat.{not-suc-le-zero, le_of_suc-le-suc, eq-or-lt_of_le, zero-div, zero-mod}
+use native.Mathlib.Numerals.{add-one}
 use native.Mathlib.Omega.{arith}
 use lib.Dec.{eqb}
-use lib.ListN.{length, get_or}
+use lib.ListN.{length, get_or, set, length-set}
+use lib.Seq.{get_or-set_same, get_or-set_other}
 use borrow.Author.Tests.{ne_eqb, eq-eqb}
 use Rattle.manual.specs.Values.{bytes_of, digit, zone, size, all_digits}
 use Rattle.manual.proofs.Digits.{digit_at, digit_small}
@@ -21,6 +23,18 @@ use Rattle.zoned.specs.Working.{Digits, Zones, Field}
 module _ (s : List ℕ) (left : ℕ) where
   abbrev pub Told : Bool → ℕ → Type 0
   Told bad i = (bad ≡ false) ↔ Digits s left i
+
+  pub told_start : Told false 0
+  told_start = (λ e k h. absurd (not-suc-le-zero h), λ g. refl)
+
+  more : (i : ℕ) → digit (get_or s (left + i) 0) ≤ 9 → Digits s left i → Digits s left (i + 1)
+  more i x g k h = ⊎_elim (λ e. rw e x) (λ l. g k l) (eq-or-lt_of_le (le_of_suc-le-suc (rw add-one at h)))
+
+  pub told_good : (bad : Bool) (i : ℕ) → digit (get_or s (left + i) 0) ≤ 9 → Told bad i → Told bad (i + 1)
+  told_good bad i x t = (λ e. more i x (t.0 e), λ g. t.1 (λ k h. g k (omega arith)))
+
+  pub told_bad : (i : ℕ) → 9 < digit (get_or s (left + i) 0) → Told true (i + 1)
+  told_bad i x = (λ e. absurd (false≢true (sym e)), λ g. let h : digit (get_or s (left + i) 0) ≤ 9 = g i (omega arith) in absurd (omega arith))
 
 -- ---- of a whole field
 
@@ -66,6 +80,33 @@ is_good true e = refl
 is_good false e = absurd (false≢true (sym e))
 
 -- ---- zones put
+
+-- turn by turn from the left
+pub zones_none : (s : List ℕ) (left : ℕ) → Zones s left 0 s
+zones_none s left = record { same_length = refl; inside = λ i p q. absurd (omega arith); outside = λ i p. refl }
+
+pub zones_next : (s t u : List ℕ) (left i : ℕ) → left + i < length s → Zones s left i t → u ≡ set t (left + i) (0xF0 + digit (get_or t (left + i) 0)) → Zones s left (i + 1) u
+zones_next s t u left i inn z e =
+    rw e
+    (record {
+      same_length = length-set t (left + i) _ ∙ z.same_length;
+      inside = λ j p q. go j p q (dec_lt j (left + i));
+      outside = λ j p. get_or-set_other t (left + i) j _ 0 (apart j p) ∙ z.outside j (wider j p);
+    })
+  where
+    go : (j : ℕ) → left ≤ j → j < left + (i + 1) → Dec (j < left + i) → get_or (set t (left + i) (0xF0 + digit (get_or t (left + i) 0))) j 0 ≡ 0xF0 + digit (get_or s j 0)
+    go j p q (yes y) = get_or-set_other t (left + i) j _ 0 (λ x. omega arith) ∙ z.inside j p y
+    go j p q (no y) =
+        let x : j ≡ left + i = omega arith in
+        rw x (get_or-set_same t (left + i) _ 0 (omega (arith, z.same_length)) ∙ ap (λ (b : ℕ). 0xF0 + digit b) (z.outside (left + i) (inr (omega arith))))
+
+    apart : (j : ℕ) → (j < left) ⊎ (left + (i + 1) ≤ j) → j ≡ left + i → ⊥
+    apart j (inl p) x = omega arith
+    apart j (inr p) x = omega arith
+
+    wider : (j : ℕ) → (j < left) ⊎ (left + (i + 1) ≤ j) → (j < left) ⊎ (left + i ≤ j)
+    wider j (inl p) = inl p
+    wider j (inr p) = inr (omega arith)
 
 -- a field of digits with its zones put has its own size put
 put_byte_is : (x j b : ℕ) → digit b ≡ digit_at x j → 0xF0 + digit b ≡ zoned_byte false x j

@@ -24,8 +24,18 @@ use Rattle.parts.specs.declared.End.{End}
 use Rattle.parts.specs.declared.End.TheVariants.{Gone}
 use Rattle.parts.specs.declared.Went.{Went}
 use Rattle.parts.specs.Inside.{machine_of, moved_to, end_of, is_gone, answer_at, LeafDoes}
-use Rattle.parts.proofs.Reaching.{Told, reach_told, both_told, stops, goes, is_clear}
+use Rattle.parts.proofs.Reaching.{Told, gone_clear, end_both, reach_told, both_told, stops, goes, is_clear}
 use Rattle.zoned.specs.Working.{zaz_way, combine_way, Ready, Left}
+
+-- ---- one test after another
+
+module _ (v w : Way) (e : End) (h : e ≡ end_of v) where
+  pub ends_first : is_gone e ≡ false → e ≡ end_of (and_then v w)
+  ends_first g =
+      h ∙ sym (end_both v w ∙ ap (λ (b : Bool). cond b (end_of w) (end_of v)) (sym (gone_clear v) ∙ sym (ap is_gone h) ∙ g))
+
+  pub ends_second : is_gone e ≡ true → (d : End) → d ≡ end_of w → d ≡ end_of (and_then v w)
+  ends_second g d k = k ∙ sym (end_both v w ∙ ap (λ (b : Bool). cond b (end_of w) (end_of v)) (is_clear v e h g))
 
 -- ---- what a clear way tells
 
