@@ -4,6 +4,7 @@ use mathlib.Core.Bool.{Bool, cond, ◌&&◌}
 use mathlib.Core.List.{List}
 use Prim.Native.Nat.{ℕ, suc, ◌+◌, ◌-◌, ◌/◌, ◌%◌, ◌<◌, ◌≤◌}
 use native.Mathlib.Decide.{dec_lt}
+use native.Mathlib.Nat.{sub-zero}
 use native.Mathlib.Omega.{arith}
 use lib.Dec.{eqb, ltb}
 use lib.ListN.{get_or, set}
@@ -55,12 +56,12 @@ borrowed t x y c h k = go (dec_lt x (y + c))
     go (no e) = let f : y + c ≤ x = omega arith in rw (le-ltb x (y + c) f) (omega arith)
 
 module _ (p : Prog Columns) (r : List ℕ) where
-  columns_one : (column : ℕ → ℕ → ℕ → Column) (n x y : ℕ) (c : Columns) (s : List ℕ)
+  pub columns_one : (column : ℕ → ℕ → ℕ → Column) (n x y : ℕ) (c : Columns) (s : List ℕ)
       → Leads p r (columns column (suc n) x y c) s → Leads p r (columns column n (x - 1) (y - 1) (columns_after column s x y c)) (bytes_next column s x y c)
   unfolding val fin columns
   columns_one column n x y c s h = record { gives = λ v u g. h.gives v u g }
 
-  columns_turn : (column : ℕ → ℕ → ℕ → Column) (n a b : ℕ) (d : Columns) (t : List ℕ) (k x y : ℕ) (c : Columns) (s : List ℕ)
+  pub columns_turn : (column : ℕ → ℕ → ℕ → Column) (n a b : ℕ) (d : Columns) (t : List ℕ) (k x y : ℕ) (c : Columns) (s : List ℕ)
       → Leads p r (columns column k x y c) s → 0 < k → n ≡ k - 1 → a ≡ x - 1 → b ≡ y - 1 → d ≡ columns_after column s x y c → t ≡ bytes_next column s x y c
       → Leads p r (columns column n a b d) t
   columns_turn column n a b d t k x y c s h l e f g u v =
@@ -83,8 +84,8 @@ module _ (p : Prog Columns) (r : List ℕ) where
   subtract_turn n a b o z t k x y c w s h l e f g u i j q =
       columns_turn subtracted n a b _ t k x y _ s h l e f g (rw (i, j, borrowed _ (get_or s x 0) (get_or s y 0) c refl u)) q
 
-  pub columns_start : (column : ℕ → ℕ → ℕ → Column) (n a b : ℕ) (c : Columns) (o : ℕ) → o ≡ c.over → Leads (columns column n a b c) r (columns column n a b (record { over = o; clear = c.clear })) r
-  columns_start column n a b c o e = rw e (leads_from (columns column n a b c) r)
+  pub columns_here : (column : ℕ → ℕ → ℕ → Column) (n a b : ℕ) (c : Columns) (o : ℕ) → o ≡ c.over → Leads (columns column n a b c) r (columns column n a b (record { over = o; clear = c.clear })) r
+  columns_here column n a b c o e = rw e (leads_from (columns column n a b c) r)
 
   pub columns_end_val : (column : ℕ → ℕ → ℕ → Column) (k x y : ℕ) (c : Columns) (s : List ℕ) → Leads p r (columns column k x y c) s → k ≡ 0 → (m : Machine) → val p (state m r) ≡ c
   unfolding val fin columns
@@ -99,6 +100,9 @@ pub unborrowed : (up : ℕ) → up ≤ 1 → 1 - (1 - up) ≡ up
 unborrowed up h = omega arith
 
 module _ (column : ℕ → ℕ → ℕ → Column) where
+  pub columns_start : (n a b : ℕ) (c : Columns) (s : List ℕ) → Leads (columns column n a b c) s (columns column (n - 0) (a - 0) (b - 0) c) s
+  columns_start n a b c s = simp sub-zero (leads_from (columns column n a b c) s)
+
   pub columns_end : (n i a b : ℕ) (c : Columns) (s : List ℕ) → n ≤ i → Gives (columns column (n - i) a b c) s c s
   unfolding val fin columns
   columns_end n i a b c s h = let e : n - i ≡ 0 = omega arith in rw (e, columns) (λ m. (refl, refl))

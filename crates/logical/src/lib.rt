@@ -165,7 +165,7 @@ fn by_fours(a: usize, b: usize, n: usize) -> usize
     0
 }
 
-#[tactic(auto, using(crate::proofs::Turns::columns_start, crate::proofs::Fours::add_fours_turn, crate::proofs::Turns::columns_end_val, crate::proofs::Turns::columns_end_fin))]
+#[tactic(auto, using(crate::proofs::Turns::columns_here, crate::proofs::Fours::add_fours_turn, crate::proofs::Turns::columns_end_val, crate::proofs::Turns::columns_end_fin))]
 fn add_fours(s: &mut [u8], a: usize, b: usize, n: usize) -> Columns
     requires { (((a < length s.old) × (4 * n ≤ a + 1)) × ((b < length s.old) × (4 * n ≤ b + 1))) × ((n ≡ 0) ⊎ ((b ≤ a) ⊎ (a + 4 ≤ b))) }
     ensures { Gives (columns added (4 * n) a b fresh) s.old result s.new × (result.over ≤ 1) }
@@ -256,7 +256,7 @@ fn subtract_fours(s: &mut [u8], a: usize, b: usize, n: usize) -> Columns
     }
 }
 
-#[tactic(auto, using(crate::proofs::Turns::columns_start, crate::proofs::Turns::subtract_turn, crate::proofs::Turns::columns_end_val, crate::proofs::Turns::columns_end_fin))]
+#[tactic(auto, using(crate::proofs::Turns::columns_here, crate::proofs::Turns::subtract_turn, crate::proofs::Turns::columns_end_val, crate::proofs::Turns::columns_end_fin))]
 fn subtract_ones(s: &mut [u8], a: usize, b: usize, n: usize, from: usize, c: Columns) -> Columns
     requires { (((a < length s.old) × (n ≤ a + 1)) × ((b < length s.old) × (n ≤ b + 1))) × ((from ≤ n) × (c.over ≤ 1)) }
     ensures { Gives (columns subtracted (n - from) (a - from) (b - from) c) s.old result s.new }
