@@ -21,8 +21,8 @@ run:
 # proved first, as above
 lib:
 	@mkdir -p target/lib
-	@(cd crates/host && rt lib) > target/lib.log 2>&1 || { cat target/lib.log; exit 1; }
-	@cp crates/host/out/libhost.a target/lib/libaqtovmesh.a
+	@(cd crates/host_c && rt lib) > target/lib.log 2>&1 || { cat target/lib.log; exit 1; }
+	@cp crates/host_c/out/libhost_c.a target/lib/libaqtovmesh.a
 	@cp bindings/include/aqtovmesh.h target/lib/
 	@echo "target/lib has libaqtovmesh.a and aqtovmesh.h"
 

@@ -9,10 +9,10 @@ fn main() {
         Some(dir) => PathBuf::from(dir),
         None => manifest.join("../../target/lib"),
     };
-    // `rt lib` names it after its crate, `make lib` after the product
-    let names = ["aqtovmesh", "host"];
+    // `make lib` names it after the product, `rt lib` after its crate, which was `host` once
+    let names = ["aqtovmesh", "host_c", "host"];
     let Some(name) = names.iter().find(|name| dir.join(format!("lib{name}.a")).exists()) else {
-        panic!("no libaqtovmesh.a or libhost.a in {}: run `make lib`, or name its directory in AQTOVMESH_LIB", dir.display());
+        panic!("no libaqtovmesh.a, libhost_c.a or libhost.a in {}: run `make lib`, or name its directory in AQTOVMESH_LIB", dir.display());
     };
     println!("cargo:rerun-if-changed={}", dir.join(format!("lib{name}.a")).display());
     println!("cargo:rustc-link-search=native={}", dir.display());

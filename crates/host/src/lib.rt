@@ -1,4 +1,4 @@
-// The host keeps one machine record and lends it, PUBLISHED and exported to C: each entry alters that record itself and tells the paper's numbers.
+// The host keeps one machine record and lends it, PUBLISHED, and exported to C by host_c: each entry alters that record itself and tells the paper's numbers.
 // No entry has a `requires`, and each has one statement: the relation of the function under it, told in numbers (specs/Told).
 #![tactic(auto)]
 
@@ -155,8 +155,7 @@ fn told_length(m: Machine, storage: &[u8]) -> ToldLength
 
 // ---- published: each takes the record, calls the function by value, and stores the machine that it gave
 
-#[unsafe(no_mangle)]
-pub extern "C" fn aqtovmesh_step(m: &mut Machine, storage: &mut [u8]) -> StepNumbers
+pub fn aqtovmesh_step(m: &mut Machine, storage: &mut [u8]) -> StepNumbers
     ensures { ToldStepAs m.old storage.old (record { machine = m.new; numbers = result }) storage.new }
 {
     let t = told_step(*m, storage);
@@ -164,8 +163,7 @@ pub extern "C" fn aqtovmesh_step(m: &mut Machine, storage: &mut [u8]) -> StepNum
     t.numbers
 }
 
-#[unsafe(no_mangle)]
-pub extern "C" fn aqtovmesh_run(m: &mut Machine, storage: &mut [u8], budget: u32) -> RunNumbers
+pub fn aqtovmesh_run(m: &mut Machine, storage: &mut [u8], budget: u32) -> RunNumbers
     ensures { ToldRunAs m.old storage.old budget (record { machine = m.new; numbers = result }) storage.new }
 {
     let t = told_run(*m, storage, budget);
@@ -173,8 +171,7 @@ pub extern "C" fn aqtovmesh_run(m: &mut Machine, storage: &mut [u8], budget: u32
     t.numbers
 }
 
-#[unsafe(no_mangle)]
-pub extern "C" fn aqtovmesh_read(m: &mut Machine, deck: &[u8], storage: &mut [u8]) -> u8
+pub fn aqtovmesh_read(m: &mut Machine, deck: &[u8], storage: &mut [u8]) -> u8
     ensures { ToldReadAs m.old deck.now storage.old (record { machine = m.new; number = result }) storage.new }
 {
     let t = told_read(*m, deck, storage);
@@ -182,8 +179,7 @@ pub extern "C" fn aqtovmesh_read(m: &mut Machine, deck: &[u8], storage: &mut [u8
     t.number
 }
 
-#[unsafe(no_mangle)]
-pub extern "C" fn aqtovmesh_write(m: &mut Machine, storage: &[u8], out: &mut [u8]) -> WriteNumbers
+pub fn aqtovmesh_write(m: &mut Machine, storage: &[u8], out: &mut [u8]) -> WriteNumbers
     ensures { ToldWriteAs m.old storage.now out.old (record { machine = m.new; numbers = result }) out.new }
 {
     let t = told_write(*m, storage, out);
@@ -191,8 +187,7 @@ pub extern "C" fn aqtovmesh_write(m: &mut Machine, storage: &[u8], out: &mut [u8
     t.numbers
 }
 
-#[unsafe(no_mangle)]
-pub extern "C" fn aqtovmesh_deck_length(m: &mut Machine, storage: &[u8]) -> usize
+pub fn aqtovmesh_deck_length(m: &mut Machine, storage: &[u8]) -> usize
     ensures { ToldLengthAs m.old storage.now (record { machine = m.new; length = result }) }
 {
     let t = told_length(*m, storage);

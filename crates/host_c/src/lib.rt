@@ -1,0 +1,42 @@
+// The entries of `host` for C, PUBLISHED: under the header's names, each with the clause of the entry that it calls.
+#![tactic(auto)]
+
+ghost use Rattle.host.specs.Told.{ToldStepAs, ToldRunAs, ToldReadAs, ToldWriteAs, ToldLengthAs};
+
+use host::{RunNumbers, StepNumbers, WriteNumbers};
+use manual::Machine;
+
+#[unsafe(no_mangle)]
+pub extern "C" fn aqtovmesh_step(m: &mut Machine, storage: &mut [u8]) -> StepNumbers
+    ensures { ToldStepAs m.old storage.old (record { machine = m.new; numbers = result }) storage.new }
+{
+    host::aqtovmesh_step(m, storage)
+}
+
+#[unsafe(no_mangle)]
+pub extern "C" fn aqtovmesh_run(m: &mut Machine, storage: &mut [u8], budget: u32) -> RunNumbers
+    ensures { ToldRunAs m.old storage.old budget (record { machine = m.new; numbers = result }) storage.new }
+{
+    host::aqtovmesh_run(m, storage, budget)
+}
+
+#[unsafe(no_mangle)]
+pub extern "C" fn aqtovmesh_read(m: &mut Machine, deck: &[u8], storage: &mut [u8]) -> u8
+    ensures { ToldReadAs m.old deck.now storage.old (record { machine = m.new; number = result }) storage.new }
+{
+    host::aqtovmesh_read(m, deck, storage)
+}
+
+#[unsafe(no_mangle)]
+pub extern "C" fn aqtovmesh_write(m: &mut Machine, storage: &[u8], out: &mut [u8]) -> WriteNumbers
+    ensures { ToldWriteAs m.old storage.now out.old (record { machine = m.new; numbers = result }) out.new }
+{
+    host::aqtovmesh_write(m, storage, out)
+}
+
+#[unsafe(no_mangle)]
+pub extern "C" fn aqtovmesh_deck_length(m: &mut Machine, storage: &[u8]) -> usize
+    ensures { ToldLengthAs m.old storage.now (record { machine = m.new; length = result }) }
+{
+    host::aqtovmesh_deck_length(m, storage)
+}
