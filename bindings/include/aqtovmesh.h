@@ -12,7 +12,7 @@
  *   - the record and the buffers of one call do not overlap, and nothing else reads or writes them meanwhile.
  * There is no other state: calls on different records and buffers may run at once.
  *
- * Link with libaqtovmesh.a (x86-64 with SSE4.2, which is x86-64-v2; memcpy and memset are all that it takes from the C library).
+ * Link with libaqtovmesh.a (x86-64; memcpy and memset are all that it takes from the C library).
  */
 #ifndef AQTOVMESH_H
 #define AQTOVMESH_H

@@ -1,7 +1,8 @@
 // Prints the line of each deck on standard input. Each deck stands behind its length, two bytes, high byte first; the length FFFF ends them.
 #![tactic(auto)]
 
-ghost use Rattle.std.specs.Prelude.{◌<◌, IfOk};
+ghost use Rattle.std.specs.Prelude.{ℕ, ◌<◌, ◌≤◌, List, length, IfOk, OnErr};
+ghost use Rattle.std.specs.Io.KnownBytes.{Consumes};
 
 use std::io::{self, Read, Write};
 
@@ -16,9 +17,10 @@ fn print_line<W: Write>(output: &mut W, deck: &[u8]) -> io::Result<()> {
     output.write_all(&line.bytes[..line.length])
 }
 
-// The length of the next deck; more than any buffer holds at the end of the input.
+// The length of the next deck; more than any buffer holds at the end of the input. A failed read has taken two bytes at most.
 fn next_length<R: Read>(input: &mut R) -> io::Result<usize>
-    ensures { IfOk result (λ n. n < 65536) }
+    ensures ok { IfOk result (λ n. n < 65536) }
+    ensures err { OnErr result ((bytes : List ℕ) × (length bytes ≤ 2) × Consumes (R.remaining input.old) (R.remaining input.new) bytes) }
 {
     let mut head = [255u8; 2];
     if input::fill(input, &mut head)? < 2 {
