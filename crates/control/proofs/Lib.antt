@@ -1,3 +1,1 @@
-pub mod Rules
-pub mod Sums
 pub mod Statuses

@@ -1,3 +1,3 @@
-pub mod Tabled
+pub mod Computed
 pub mod Rest
-pub mod Arms
+pub mod Unlisted

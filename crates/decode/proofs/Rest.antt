@@ -4,7 +4,7 @@ use mathlib.Core.Bool.{Bool, true, false, ◌||◌}
 use mathlib.Core.List.{List, [], ◌∷◌}
 use Prim.Native.Nat.{ℕ, ◌<◌}
 use lib.Dec.{T, eqb, eqb→eq}
-use Rattle.parts.proofs.Computed.{all_below, all_at}
+use Rattle.decode.proofs.Computed.{all_below, all_at}
 
 second : (a b : Bool) → T (a || b) → (T a → ⊥) → T b
 second true b t h = absurd (h tt)

@@ -1,22 +1,22 @@
 // The decoder: the sixteen-entry table by the opcode's left digit, and the instruction at IAR, or a stop in the order 4, 5, 4, 6.
 #![tactic(auto)]
 
-ghost use Rattle.std.specs.Prelude.{◌≡◌, ◌+◌, ◌*◌, ◌<◌, ◌≤◌, T, length, get_or};
-ghost use Rattle.manual.specs.Formats.{form_of, width_of, allowed, is_index_or_work, is_sum_register, is_register, two_address};
+ghost use Rattle.std.specs.Prelude.{◌≡◌, ℕ, true, ◌+◌, ◌/◌, ◌%◌, ◌<◌, ◌≤◌, T, length, get_or};
+ghost use Rattle.manual.specs.Formats.{form_of, width_of, allowed, first_base, is_index_or_work, is_sum_register, is_register, two_address, operation_of};
 ghost use Rattle.manual.specs.declared.Named.TheVariants.{Known, Unknown};
-ghost use Rattle.manual.specs.Decode.{decode_opcode, decode_of};
-ghost use Rattle.manual.specs.Step.{based};
-ghost use Rattle.manual.proofs.Fetched.{Sound};
-ghost use Rattle.parts.specs.Inside.{Within};
-ghost use Rattle.decode.specs.Fetching.{fetched_of, address_at, allows_named, single_of, third_of, double_of, unlisted};
+ghost use Rattle.manual.specs.declared.Base.TheVariants.{Absent};
+ghost use Rattle.manual.specs.declared.Group.TheVariants.{TwoAddress, Jump};
+ghost use Rattle.manual.specs.Decode.{number_at, decode_named, decode_opcode, decode_of};
+ghost use Rattle.manual.specs.Stops.{address_of};
+ghost use Rattle.decode.specs.Fetching.{fetched_of, allows_named, unlisted};
 
-use manual::{Base, Fields, Form, Group, Named, Operation};
-use parts::Core;
+use manual::{Base, Form, Group, Machine, Named, Operation};
 
 // The stops hold nothing: one that held a value would cost the run's loop its registers.
 #[derive(Clone, Copy)]
 pub enum Fetched {
-    Go(Operation, Fields),
+    // the operation, the Q and R bytes, the addresses of the operands, and of the next instruction
+    Go(Operation, u8, u8, u16, u16, u16),
     PastStorage,
     Unnamed,
     QNotAllowed,
@@ -123,52 +123,39 @@ const FORMS: [Form; 16] = [
 ];
 
 // Read at a literal index, so that the table folds away in the loop.
-fn form_of(left: usize) -> Form
+#[tactic(auto, unfolding(manual::specs::Formats::form_of))]
+fn form_at(left: usize) -> Form
     requires { left < 16 }
-    ensures { (result ≡ form_of left) × Sound result }
+    ensures { result ≡ form_of left }
 {
     FORMS[left]
 }
 
-// At any left digit: still read at a literal index, so that the compiler keeps a table of constants.
-fn form_at(left: u8) -> Form
+// The form of any left digit: still read at a literal index, so that the compiler keeps a table of constants.
+#[tactic(auto, unfolding(manual::specs::Formats::form_of))]
+fn form_of(left: u8) -> Form
     requires { left < 16 }
-    ensures { (result ≡ form_of left) × Sound result }
+    ensures form { result ≡ form_of left }
+    ensures holds { (2 + width_of result.first + width_of result.second ≤ result.length) × (3 ≤ result.length) × (result.length < 7) }
 {
     match left {
-        0 => form_of(0),
-        1 => form_of(1),
-        2 => form_of(2),
-        3 => form_of(3),
-        4 => form_of(4),
-        5 => form_of(5),
-        6 => form_of(6),
-        7 => form_of(7),
-        8 => form_of(8),
-        9 => form_of(9),
-        10 => form_of(10),
-        11 => form_of(11),
-        12 => form_of(12),
-        13 => form_of(13),
-        14 => form_of(14),
-        _ => form_of(15),
+        0 => form_at(0),
+        1 => form_at(1),
+        2 => form_at(2),
+        3 => form_at(3),
+        4 => form_at(4),
+        5 => form_at(5),
+        6 => form_at(6),
+        7 => form_at(7),
+        8 => form_at(8),
+        9 => form_at(9),
+        10 => form_at(10),
+        11 => form_at(11),
+        12 => form_at(12),
+        13 => form_at(13),
+        14 => form_at(14),
+        _ => form_at(15),
     }
-}
-
-// A direct address: two bytes, high first.
-fn word(s: &[u8], at: usize) -> usize
-    requires { at + 2 ≤ length s.now }
-    ensures { result ≡ get_or s.now at 0 * 256 + get_or s.now (at + 1) 0 }
-{
-    parts::joined(s[at], s[at + 1])
-}
-
-// A base plus displacement.
-fn based(base: usize, by: u8) -> usize
-    requires { base < 65536 }
-    ensures { result ≡ based base by }
-{
-    (base + (by as usize)) % 65536
 }
 
 // The bytes that an operand takes in the instruction.
@@ -178,27 +165,23 @@ fn width(b: Base) -> usize
     match b {
         Base::Absent => 0,
         Base::Direct => 2,
-        Base::FromXr1 => 1,
-        Base::FromXr2 => 1,
-        Base::FromArr => 1,
-        Base::Forward => 1,
-        Base::Backward => 1,
+        _ => 1,
     }
 }
 
-// The address of the operand whose bytes begin at `at`.
-fn address(b: Base, c: Core, s: &[u8], next: usize, at: usize) -> usize
-    requires { Within c × (next < 65536) × (at + width_of b ≤ length s.now) }
-    ensures { result ≡ address_at c s.now next b at }
+// The address of the operand whose bytes begin at the instruction's k-th.
+fn address(b: Base, m: &Machine, s: &[u8], next: u16, at: usize, k: usize) -> u16
+    requires { (k < 6) × (at + k + width_of b ≤ length s.now) × (at < 65536) }
+    ensures { result ≡ address_of m.now b next (number_at b (λ i. get_or s.now (at + i) 0) k) }
 {
     match b {
         Base::Absent => 0,
-        Base::Direct => word(s, at),
-        Base::FromXr1 => based(c.xr1, s[at]),
-        Base::FromXr2 => based(c.xr2, s[at]),
-        Base::FromArr => based(c.arr, s[at]),
-        Base::Forward => based(next, s[at]),
-        Base::Backward => (next + 65536 - (s[at] as usize)) % 65536,
+        Base::Direct => u16::from(s[at + k]) * 256 + u16::from(s[at + (k + 1)]),
+        Base::FromXr1 => m.xr1.wrapping_add(u16::from(s[at + k])),
+        Base::FromXr2 => m.xr2.wrapping_add(u16::from(s[at + k])),
+        Base::FromArr => m.arr.wrapping_add(u16::from(s[at + k])),
+        Base::Forward => next.wrapping_add(u16::from(s[at + k])),
+        Base::Backward => next.wrapping_sub(u16::from(s[at + k])),
     }
 }
 
@@ -207,30 +190,19 @@ fn address(b: Base, c: Core, s: &[u8], next: usize, at: usize) -> usize
 fn is_index_or_work(q: u8) -> bool
     ensures { result ≡ is_index_or_work q }
 {
-    match q {
-        1 => true,
-        2 => true,
-        0x44..=0x47 => true,
-        _ => false,
-    }
+    matches!(&q, 1 | 2 | 0x44..=0x47)
 }
 
 fn is_sum_register(q: u8) -> bool
     ensures { result ≡ is_sum_register q }
 {
-    match q {
-        8 => true,
-        _ => is_index_or_work(q),
-    }
+    q == 8 || is_index_or_work(q)
 }
 
 fn is_register(q: u8) -> bool
     ensures { result ≡ is_register q }
 {
-    match q {
-        4 => true,
-        _ => is_sum_register(q),
-    }
+    q == 4 || is_sum_register(q)
 }
 
 #[tactic(auto, unfolding(manual::specs::Formats::allowed))]
@@ -238,41 +210,23 @@ fn allowed(op: Operation, q: u8) -> bool
     ensures { result ≡ allowed op q }
 {
     match op {
-        Operation::Zaz => true,
-        Operation::Az => true,
-        Operation::Sz => true,
-        Operation::Mvx => q < 4,
-        Operation::Ed => true,
-        Operation::Itc => true,
-        Operation::Mvc => true,
-        Operation::Clc => true,
-        Operation::Alc => true,
-        Operation::Slc => true,
-        Operation::St => is_register(q),
-        Operation::L => is_register(q),
-        Operation::A => is_sum_register(q),
-        Operation::S => is_sum_register(q),
-        Operation::Tbn => true,
-        Operation::Tbf => true,
-        Operation::Sbn => true,
-        Operation::Sbf => true,
-        Operation::Mvi => true,
-        Operation::Cli => true,
-        Operation::Sli => true,
-        Operation::Bc => true,
-        Operation::Jc => true,
+        Operation::Mvx => q <= 3,
+        Operation::St | Operation::L => is_register(q),
+        Operation::A | Operation::S => is_sum_register(q),
         Operation::La => is_index_or_work(q),
-        Operation::Svc => true,
+        _ => true,
     }
 }
 
 // ---- an instruction, once its opcode is known
 
 // One address.
-#[tactic(auto, unfolding(crate::specs::Fetching::single_of))]
-fn single(op: Operation, form: Form, c: Core, s: &[u8], at: usize) -> Fetched
-    requires { Sound form × Within c × (at < length s.now) }
-    ensures { result ≡ single_of op form c s.now at }
+#[tactic(auto, unfolding(manual::specs::Decode::instruction_of))]
+fn single(op: Operation, form: Form, m: &Machine, s: &[u8], at: usize) -> Fetched
+    requires within { (at < 65536) × (at < length s.now) }
+    requires holds { (form.second ≡ Absent) × (2 + width_of form.first ≤ form.length) × (3 ≤ form.length) × (form.length < 7) }
+    requires base { first_base form.group form.first (get_or s.now (at + 0) 0 % 16) ≡ form.first }
+    ensures { result ≡ fetched_of m.now (decode_named s.now at form (Known op)) }
 {
     let length = form.length as usize;
     if s.len() - at < length {
@@ -282,82 +236,60 @@ fn single(op: Operation, form: Form, c: Core, s: &[u8], at: usize) -> Fetched
     if !allowed(op, q) {
         return Fetched::QNotAllowed;
     }
-    let first = form.first;
-    let next = (at + length) % 65536;
-    Fetched::Go(
-        op,
-        Fields {
-            q: q,
-            r: s[at + 2],
-            a1: address(first, c, s, next, at + 2),
-            a2: 0,
-            next: next,
-        },
-    )
+    let next = ((at + length) % 65536) as u16;
+    let a1 = address(form.first, m, s, next, at, 2);
+    Fetched::Go(op, q, s[at + 2], a1, 0, next)
 }
 
 // F0, F1, F2 and F4: the third byte counts from a base, and every Q byte is allowed.
-#[tactic(auto, unfolding(crate::specs::Fetching::third_of))]
-fn third(op: Operation, base: Base, c: Core, s: &[u8], at: usize) -> Fetched
-    requires { (width_of base ≤ 1) × Within c × (at < length s.now) }
-    ensures { result ≡ third_of op base c s.now at }
+#[tactic(auto, unfolding(manual::specs::Decode::instruction_of, manual::specs::Formats::form_of))]
+fn third(op: Operation, base: Base, m: &Machine, s: &[u8], at: usize) -> Fetched
+    requires within { (at < 65536) × (at < length s.now) }
+    requires base { (width_of base ≤ 1) × (first_base Jump Absent (get_or s.now (at + 0) 0 % 16) ≡ base) }
+    requires free { (q : ℕ) → allowed op q ≡ true }
+    ensures { result ≡ fetched_of m.now (decode_named s.now at (form_of 15) (Known op)) }
 {
     if s.len() - at < 3 {
         return Fetched::PastStorage;
     }
-    let next = (at + 3) % 65536;
-    Fetched::Go(
-        op,
-        Fields {
-            q: s[at + 1],
-            r: s[at + 2],
-            a1: address(base, c, s, next, at + 2),
-            a2: 0,
-            next: next,
-        },
-    )
+    let next = ((at + 3) % 65536) as u16;
+    let a1 = address(base, m, s, next, at, 2);
+    Fetched::Go(op, s[at + 1], s[at + 2], a1, 0, next)
 }
 
 // Of the operations of two addresses MVX alone refuses some Q bytes. The right digit is asked and not the operation, so that the loop keeps no call here.
-#[tactic(auto, unfolding(manual::specs::Formats::allowed), using(crate::proofs::Arms::others_allow))]
+#[tactic(auto, unfolding(manual::specs::Formats::allowed))]
 fn pair_allows(right: u8, q: u8) -> bool
     ensures { result ≡ allows_named (get_or two_address right Unknown) q }
 {
-    if right == 8 {
-        return q < 4;
+    match right {
+        8 => q <= 3,
+        4 | 6 | 7 | 10 | 11 | 12 | 13 | 14 | 15 => true,
+        _ => true,
     }
-    true
 }
 
 // Two addresses; the operation is the one that the right digit names.
-#[tactic(auto, unfolding(crate::specs::Fetching::double_of), using(crate::proofs::Arms::digit_allows))]
-fn double(right: u8, op: Operation, form: Form, c: Core, s: &[u8], at: usize) -> Fetched
-    requires { (get_or two_address right Unknown ≡ Known op) × Sound form × Within c × (at < length s.now) }
-    ensures { result ≡ double_of op form c s.now at }
+#[tactic(auto, unfolding(manual::specs::Decode::instruction_of, manual::specs::Formats::first_base))]
+fn double(right: u8, op: Operation, form: Form, m: &Machine, s: &[u8], at: usize) -> Fetched
+    requires within { (at < 65536) × (at < length s.now) }
+    requires named { get_or two_address right Unknown ≡ Known op }
+    requires holds { (form.group ≡ TwoAddress) × (2 + width_of form.first + width_of form.second ≤ form.length) × (3 ≤ form.length) × (form.length < 7) }
+    ensures { result ≡ fetched_of m.now (decode_named s.now at form (Known op)) }
 {
     let length = form.length as usize;
-    if s.len() - at < length {
+    let left = s.len() - at;
+    if left < length {
         return Fetched::PastStorage;
     }
     let q = s[at + 1];
     if !pair_allows(right, q) {
         return Fetched::QNotAllowed;
     }
-    let first = form.first;
-    let second = form.second;
-    let next = (at + length) % 65536;
-    let a1 = address(first, c, s, next, at + 2);
-    let a2 = address(second, c, s, next, at + 2 + width(first));
-    Fetched::Go(
-        op,
-        Fields {
-            q: q,
-            r: s[at + 2],
-            a1: a1,
-            a2: a2,
-            next: next,
-        },
-    )
+    let next = ((at + length) % 65536) as u16;
+    let a1 = address(form.first, m, s, next, at, 2);
+    let a2 = address(form.second, m, s, next, at, 2 + width(form.first));
+    Fetched::Go(op, q, s[at + 2], a1, a2, next)
 }
 
 // The operations of two addresses, by the right digit.
@@ -380,79 +312,76 @@ fn pair_named(right: u8) -> Named
 }
 
 // An opcode that isn't named below: one of two addresses, or unknown.
-#[tactic(auto, using(crate::proofs::Arms::unnamed, crate::proofs::Arms::no_pair))]
-fn pair(opcode: u8, c: Core, s: &[u8], at: usize) -> Fetched
-    requires { T (unlisted opcode) × Within c × (at < length s.now) }
-    ensures { result ≡ fetched_of c (decode_opcode s.now at opcode) }
+#[tactic(auto, unfolding(manual::specs::Formats::named_of), using(crate::proofs::Unlisted::names_nothing, crate::proofs::Unlisted::no_pair))]
+fn pair(opcode: u8, m: &Machine, s: &[u8], at: usize) -> Fetched
+    requires within { (at < 65536) × (at < length s.now) }
+    requires opcode { T (unlisted opcode) }
+    ensures { result ≡ fetched_of m.now (decode_opcode s.now at opcode) }
 {
-    let named = pair_named(opcode % 16);
-    let Named::Known(op) = named else {
+    let right = opcode % 16;
+    let Named::Known(op) = pair_named(right) else {
         return Fetched::Unnamed;
     };
-    let form = form_at(opcode / 16);
-    let group = form.group;
-    match group {
-        Group::TwoAddress => double(opcode % 16, op, form, c, s, at),
-        Group::OneAddress => Fetched::Unnamed,
-        Group::Branch => Fetched::Unnamed,
-        Group::Jump => Fetched::Unnamed,
+    let form = form_of(opcode / 16);
+    match form.group {
+        Group::TwoAddress => double(right, op, form, m, s, at),
+        _ => Fetched::Unnamed,
     }
 }
 
-#[tactic(auto, unfolding(manual::specs::Formats::form_of, manual::specs::Formats::named_of, manual::specs::Formats::first_base, manual::specs::Formats::allowed), using(crate::proofs::Arms::single_arm, crate::proofs::Arms::third_arm))]
-pub fn decode(c: Core, s: &[u8]) -> Fetched
-    requires { Within c }
-    ensures { result ≡ fetched_of c (decode_of s.now c.iar) }
+#[tactic(auto, unfolding(manual::specs::Decode::decode_of, manual::specs::Formats::form_of, manual::specs::Formats::named_of, manual::specs::Formats::first_base, manual::specs::Formats::allowed), using(crate::proofs::Unlisted::others))]
+pub fn decode(m: &Machine, s: &[u8]) -> Fetched
+    ensures { result ≡ fetched_of m.now (decode_of s.now m.now.iar) }
 {
-    let at = c.iar;
+    let at = m.iar as usize;
     if s.len() <= at {
         return Fetched::PastStorage;
     }
     let opcode = s[at];
     match opcode {
-        0x34 => single(Operation::St, form_of(3), c, s, at),
-        0x74 => single(Operation::St, form_of(7), c, s, at),
-        0xB4 => single(Operation::St, form_of(11), c, s, at),
-        0x35 => single(Operation::L, form_of(3), c, s, at),
-        0x75 => single(Operation::L, form_of(7), c, s, at),
-        0xB5 => single(Operation::L, form_of(11), c, s, at),
-        0x36 => single(Operation::A, form_of(3), c, s, at),
-        0x76 => single(Operation::A, form_of(7), c, s, at),
-        0xB6 => single(Operation::A, form_of(11), c, s, at),
-        0x37 => single(Operation::S, form_of(3), c, s, at),
-        0x77 => single(Operation::S, form_of(7), c, s, at),
-        0xB7 => single(Operation::S, form_of(11), c, s, at),
-        0x38 => single(Operation::Tbn, form_of(3), c, s, at),
-        0x78 => single(Operation::Tbn, form_of(7), c, s, at),
-        0xB8 => single(Operation::Tbn, form_of(11), c, s, at),
-        0x39 => single(Operation::Tbf, form_of(3), c, s, at),
-        0x79 => single(Operation::Tbf, form_of(7), c, s, at),
-        0xB9 => single(Operation::Tbf, form_of(11), c, s, at),
-        0x3A => single(Operation::Sbn, form_of(3), c, s, at),
-        0x7A => single(Operation::Sbn, form_of(7), c, s, at),
-        0xBA => single(Operation::Sbn, form_of(11), c, s, at),
-        0x3B => single(Operation::Sbf, form_of(3), c, s, at),
-        0x7B => single(Operation::Sbf, form_of(7), c, s, at),
-        0xBB => single(Operation::Sbf, form_of(11), c, s, at),
-        0x3C => single(Operation::Mvi, form_of(3), c, s, at),
-        0x7C => single(Operation::Mvi, form_of(7), c, s, at),
-        0xBC => single(Operation::Mvi, form_of(11), c, s, at),
-        0x3D => single(Operation::Cli, form_of(3), c, s, at),
-        0x7D => single(Operation::Cli, form_of(7), c, s, at),
-        0xBD => single(Operation::Cli, form_of(11), c, s, at),
-        0x3F => single(Operation::Sli, form_of(3), c, s, at),
-        0x7F => single(Operation::Sli, form_of(7), c, s, at),
-        0xBF => single(Operation::Sli, form_of(11), c, s, at),
-        0xC0 => single(Operation::Bc, form_of(12), c, s, at),
-        0xC2 => single(Operation::La, form_of(12), c, s, at),
-        0xD0 => single(Operation::Bc, form_of(13), c, s, at),
-        0xD2 => single(Operation::La, form_of(13), c, s, at),
-        0xE0 => single(Operation::Bc, form_of(14), c, s, at),
-        0xE2 => single(Operation::La, form_of(14), c, s, at),
-        0xF0 => third(Operation::Bc, Base::FromArr, c, s, at),
-        0xF1 => third(Operation::Jc, Base::Backward, c, s, at),
-        0xF2 => third(Operation::Jc, Base::Forward, c, s, at),
-        0xF4 => third(Operation::Svc, Base::Absent, c, s, at),
-        _ => pair(opcode, c, s, at),
+        0x34 => single(Operation::St, form_at(3), m, s, at),
+        0x74 => single(Operation::St, form_at(7), m, s, at),
+        0xB4 => single(Operation::St, form_at(11), m, s, at),
+        0x35 => single(Operation::L, form_at(3), m, s, at),
+        0x75 => single(Operation::L, form_at(7), m, s, at),
+        0xB5 => single(Operation::L, form_at(11), m, s, at),
+        0x36 => single(Operation::A, form_at(3), m, s, at),
+        0x76 => single(Operation::A, form_at(7), m, s, at),
+        0xB6 => single(Operation::A, form_at(11), m, s, at),
+        0x37 => single(Operation::S, form_at(3), m, s, at),
+        0x77 => single(Operation::S, form_at(7), m, s, at),
+        0xB7 => single(Operation::S, form_at(11), m, s, at),
+        0x38 => single(Operation::Tbn, form_at(3), m, s, at),
+        0x78 => single(Operation::Tbn, form_at(7), m, s, at),
+        0xB8 => single(Operation::Tbn, form_at(11), m, s, at),
+        0x39 => single(Operation::Tbf, form_at(3), m, s, at),
+        0x79 => single(Operation::Tbf, form_at(7), m, s, at),
+        0xB9 => single(Operation::Tbf, form_at(11), m, s, at),
+        0x3A => single(Operation::Sbn, form_at(3), m, s, at),
+        0x7A => single(Operation::Sbn, form_at(7), m, s, at),
+        0xBA => single(Operation::Sbn, form_at(11), m, s, at),
+        0x3B => single(Operation::Sbf, form_at(3), m, s, at),
+        0x7B => single(Operation::Sbf, form_at(7), m, s, at),
+        0xBB => single(Operation::Sbf, form_at(11), m, s, at),
+        0x3C => single(Operation::Mvi, form_at(3), m, s, at),
+        0x7C => single(Operation::Mvi, form_at(7), m, s, at),
+        0xBC => single(Operation::Mvi, form_at(11), m, s, at),
+        0x3D => single(Operation::Cli, form_at(3), m, s, at),
+        0x7D => single(Operation::Cli, form_at(7), m, s, at),
+        0xBD => single(Operation::Cli, form_at(11), m, s, at),
+        0x3F => single(Operation::Sli, form_at(3), m, s, at),
+        0x7F => single(Operation::Sli, form_at(7), m, s, at),
+        0xBF => single(Operation::Sli, form_at(11), m, s, at),
+        0xC0 => single(Operation::Bc, form_at(12), m, s, at),
+        0xC2 => single(Operation::La, form_at(12), m, s, at),
+        0xD0 => single(Operation::Bc, form_at(13), m, s, at),
+        0xD2 => single(Operation::La, form_at(13), m, s, at),
+        0xE0 => single(Operation::Bc, form_at(14), m, s, at),
+        0xE2 => single(Operation::La, form_at(14), m, s, at),
+        0xF0 => third(Operation::Bc, Base::FromArr, m, s, at),
+        0xF1 => third(Operation::Jc, Base::Backward, m, s, at),
+        0xF2 => third(Operation::Jc, Base::Forward, m, s, at),
+        0xF4 => third(Operation::Svc, Base::Absent, m, s, at),
+        _ => pair(opcode, m, s, at),
     }
 }

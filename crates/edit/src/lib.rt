@@ -2,13 +2,13 @@
 #![tactic(auto)]
 
 ghost use Rattle.std.specs.Prelude.{◌≡◌, ◌+◌, ◌<◌, ◌≤◌, length, take, eqb};
-ghost use Rattle.manual.specs.Values.{bytes_of, size, all_digits, value, sign_order};
+ghost use Rattle.manual.specs.Values.{bytes_of, size, digits_of, value, sign_order};
 ghost use Rattle.manual.specs.Edit.{half_moved, mvx, count20, source_reach, put_edited, ed, ends_scan, scan, itc};
 ghost use Rattle.manual.specs.Step.{Gives};
-ghost use Rattle.parts.specs.Inside.{end_of, LeafDoes, Within};
+ghost use Rattle.parts.specs.Leaf.{way, Does};
 
-use manual::Fields;
-use parts::{Core, End, Went};
+use manual::{Fields, Machine, Stop};
+use parts::{reach, reach_right, set_order};
 
 // ---- MVX
 
@@ -24,19 +24,17 @@ fn half_moved(q: u8, x: u8, y: u8) -> u8
     }
 }
 
-#[tactic(auto, using(parts::proofs::Reaching::both_reached, crate::proofs::Rules::mvx_goes, crate::proofs::Rules::mvx_stops))]
-pub fn mvx(c: Core, s: &mut [u8], f: Fields) -> Went
-    ensures { LeafDoes c s.old f (mvx f) result s.new }
+#[tactic(auto, unfolding(manual::specs::Edit::mvx, manual::specs::Programs::unless, manual::specs::Programs::and_then, manual::specs::Programs::val, manual::specs::Programs::fin, manual::specs::Step::did, manual::specs::Formats::reach))]
+pub fn mvx(m: &mut Machine, s: &mut [u8], f: Fields) -> Result<(), Stop>
+    ensures { Does (mvx f) m.old s.old result m.new s.new }
 {
-    let a = f.a1;
-    let b = f.a2;
-    let end = parts::reach_both(s.len(), 1, a, 1, b);
-    if parts::is_gone(end) {
-        let v = half_moved(f.q, s[a], s[b]);
-        parts::put_byte(s, a, v);
-        return parts::gone(c, f.next, c.status);
-    }
-    parts::stopped(c, end)
+    let a = f.a1 as usize;
+    let b = f.a2 as usize;
+    reach(s.len(), 1, a)?;
+    reach(s.len(), 1, b)?;
+    s[a] = half_moved(f.q, s[a], s[b]);
+    m.iar = f.next;
+    Ok(())
 }
 
 // ---- ED
@@ -59,42 +57,41 @@ fn count_20(s: &[u8], a: usize, n: usize) -> usize
 }
 
 #[tactic(auto, unfolding(manual::specs::Edit::source_reach))]
-fn source_reach(size: usize, n: usize, a: usize) -> End
-    ensures { result ≡ end_of (source_reach size n a) }
+fn source_reach(size: usize, n: usize, a: usize) -> Result<(), Stop>
+    ensures { result ≡ way (source_reach size n a) }
 {
     if n == 0 {
-        return End::Gone;
+        return Ok(());
     }
-    parts::reach(size, n, a)
+    reach(size, n, a)
 }
 
 // Operand 2 as it was, the rightmost byte first: an overlap must not change a digit before it is taken.
 #[tactic(auto, using(crate::proofs::Taking::copied_none))]
-fn taken(s: &[u8], a: usize, n: usize) -> [u8; 256]
+fn take(s: &[u8], a: usize, n: usize, d: &mut [u8; 256])
     requires { (n ≤ a + 1) × (n ≤ 256) × (0 < n → a < length s.now) }
-    ensures { take n result ≡ bytes_of s.now n a }
+    ensures { take n d.new ≡ bytes_of s.now n a }
 {
-    let mut d = [0u8; 256];
     let mut i = 0;
     while i < n {
         d[i] = s[a - i];
         i += 1;
     }
-    d
 }
 
-#[tactic(auto, using(crate::proofs::Taking::digit_refused, crate::proofs::Taking::digit_passed, crate::proofs::Taking::digits_done))]
-fn all_digits(d: &[u8]) -> bool
-    ensures { result ≡ all_digits d.now }
+// A digit above 9 stops with 8.
+#[tactic(auto, unfolding(manual::specs::Values::digits_of), using(crate::proofs::Taking::digit_refused, crate::proofs::Taking::digit_passed, crate::proofs::Taking::digits_done))]
+fn digits_of(d: &[u8]) -> Result<(), Stop>
+    ensures { result ≡ way (digits_of d.now) }
 {
     let mut i = 0;
     while i < d.len() {
         if 9 < d[i] % 16 {
-            return false;
+            return Err(Stop::DigitRefused);
         }
         i += 1;
     }
-    true
+    Ok(())
 }
 
 #[tactic(auto, using(crate::proofs::Taking::size_refused, crate::proofs::Taking::size_passed, crate::proofs::Taking::size_done))]
@@ -113,7 +110,7 @@ fn all_zero(d: &[u8]) -> bool
 
 // Equal, low, high by the value being zero, minus, plus.
 #[tactic(auto, using(crate::proofs::Taking::order_equal, crate::proofs::Taking::order_signed, crate::proofs::Taking::sized))]
-fn value_order(d: &[u8]) -> usize
+fn value_order(d: &[u8]) -> u8
     ensures { (result ≡ sign_order (value d.now)) × (result < 8) }
 {
     if all_zero(d) {
@@ -135,35 +132,31 @@ fn put_edited(s: &mut [u8], a: usize, n: usize, d: &[u8])
     let mut i = 0;
     while i < n {
         if s[a - i] == 0x20 {
-            parts::put_byte(s, a - i, 240 + d[k] % 16);
+            s[a - i] = 240 + d[k] % 16;
             k += 1;
         }
         i += 1;
     }
 }
 
-#[tactic(auto, using(parts::proofs::Reaching::reached_in, crate::proofs::Rules::source_in, crate::proofs::Rules::ed_stops, crate::proofs::Rules::source_stops, crate::proofs::Rules::digit_stops))]
-pub fn ed(c: Core, s: &mut [u8], f: Fields) -> Went
-    requires { Within c }
-    ensures { LeafDoes c s.old f (ed f) result s.new }
+#[tactic(auto, unfolding(manual::specs::Edit::ed, manual::specs::Programs::unless, manual::specs::Programs::val, manual::specs::Step::did, manual::specs::Formats::reach), using(crate::proofs::Rules::source_in))]
+pub fn ed(m: &mut Machine, s: &mut [u8], f: Fields) -> Result<(), Stop>
+    ensures { Does (ed f) m.old s.old result m.new s.new }
 {
     let n = f.q as usize + 1;
-    let end = parts::reach(s.len(), n, f.a1);
-    if parts::is_gone(end) {
-        let count = count_20(s, f.a1, n);
-        let source = source_reach(s.len(), count, f.a2);
-        if parts::is_gone(source) {
-            let copy = taken(s, f.a2, count);
-            let d = &copy[..count];
-            if all_digits(d) {
-                put_edited(s, f.a1, n, d);
-                return parts::gone(c, f.next, parts::set_order(value_order(d), c.status));
-            }
-            return parts::stopped(c, End::BadDigit);
-        }
-        return parts::stopped(c, source);
-    }
-    parts::stopped(c, end)
+    let a = f.a1 as usize;
+    let b = f.a2 as usize;
+    reach(s.len(), n, a)?;
+    let count = count_20(s, a, n);
+    source_reach(s.len(), count, b)?;
+    let mut copy = [0u8; 256];
+    take(s, b, count, &mut copy);
+    let d = &copy[..count];
+    digits_of(d)?;
+    put_edited(s, a, n, d);
+    m.status = set_order(value_order(d), m.status);
+    m.iar = f.next;
+    Ok(())
 }
 
 // ---- ITC
@@ -192,28 +185,23 @@ fn scan_right(s: &mut [u8], a: usize, n: usize, v: u8) -> usize
         if ends_scan(s[at]) {
             break at;
         }
-        parts::put_byte(s, at, v);
+        s[at] = v;
         at += 1;
     };
     found
 }
 
-#[tactic(auto, using(parts::proofs::Reaching::reached_in, crate::proofs::Rules::right_in, crate::proofs::Rules::itc_stops, crate::proofs::Rules::first_told, crate::proofs::Rules::second_told))]
-pub fn itc(c: Core, s: &mut [u8], f: Fields) -> Went
-    ensures { LeafDoes c s.old f (itc f) result s.new }
+#[tactic(auto, unfolding(manual::specs::Edit::itc, manual::specs::Programs::unless, manual::specs::Programs::and_then, manual::specs::Programs::val, manual::specs::Step::did, manual::specs::Formats::reach, manual::specs::Formats::reach_right))]
+pub fn itc(m: &mut Machine, s: &mut [u8], f: Fields) -> Result<(), Stop>
+    ensures { Does (itc f) m.old s.old result m.new s.new }
 {
     let n = f.q as usize + 1;
-    let b = f.a2;
-    let first = parts::reach_right(s.len(), n, f.a1);
-    if parts::is_gone(first) {
-        let second = parts::reach(s.len(), 1, b);
-        if parts::is_gone(second) {
-            let v = s[b];
-            let mut t = c;
-            t.arr = scan_right(s, f.a1, n, v) % 65536;
-            return parts::gone(t, f.next, c.status);
-        }
-        return parts::stopped(c, second);
-    }
-    parts::stopped(c, first)
+    let a = f.a1 as usize;
+    let b = f.a2 as usize;
+    reach_right(s.len(), n, a)?;
+    reach(s.len(), 1, b)?;
+    let v = s[b];
+    m.arr = (scan_right(s, a, n, v) % 65536) as u16;
+    m.iar = f.next;
+    Ok(())
 }

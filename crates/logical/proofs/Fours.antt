@@ -1,7 +1,6 @@
 -- Four columns of ALC or SLC at once. What carries it: the result is the number of a sum or difference, and its bytes are that number's.
 use mathlib.Core.Path.{◌≡◌, refl, sym, ◌∙◌, ap}
-use mathlib.Core.Logic.{◌⊎◌, inl, inr}
-use mathlib.Core.Bool.{Bool, true, ◌&&◌}
+use mathlib.Core.Bool.{Bool, true, false, ◌&&◌}
 use mathlib.Core.List.{List}
 use Prim.Native.Nat.{ℕ, zero, suc, ◌+◌, ◌-◌, ◌*◌, ◌/◌, ◌%◌, ◌<◌, ◌≤◌}
 use native.Mathlib.Nat.{add-zero, add-suc, sub-add-eq, sub-zero}
@@ -13,12 +12,13 @@ use Rattle.manual.specs.declared.Columns.{Columns}
 use Rattle.manual.specs.Places.{State}
 use Rattle.manual.specs.Programs.{Prog, val, fin}
 use Rattle.manual.specs.Values.{bytes_of, number}
-use Rattle.manual.specs.Logical.{Column, columns, added, subtracted, fresh}
+use Rattle.manual.specs.Logical.{Column, columns, added, subtracted}
 use Rattle.manual.specs.Step.{Gives}
 use Rattle.manual.proofs.FieldBytes.{Bytes, outside_from, left_inside, number_more, bytes_of_lem, field_below}
 use Rattle.manual.proofs.Sums.{bytes_next, columns_after, columns_bytes, columns_give, Unharmed, val_columns, fin_columns, columns_outside, columns_clear}
 use Rattle.manual.proofs.Sums.{columns_sum, columns_difference, columns_borrow, taken_unharmed, result_below, byte_added, byte_subtracted}
-use Rattle.logical.proofs.Turns.{Leads}
+use Rattle.logical.specs.Columns.{column_of, taken}
+use Rattle.logical.proofs.Turns.{Leads, so_far}
 
 -- ---- the bytes of a number, put from a to the left
 
@@ -89,14 +89,6 @@ module _ (column : ℕ → ℕ → ℕ → Column) where
       let z : n - k + k ≡ n = omega arith in
       rw z at (columns_join k (n - k) a b c s v u (rw (x, y) g)) m
 
-  left_fours : (a i : ℕ) → a - 4 * (i + 1) ≡ a - 4 * i - 4
-  left_fours a i = omega arith
-
-  pub columns_fours : (n i a b : ℕ) (c d e : Columns) (s t r : List ℕ) → i < n → Gives (columns column 4 (a - 4 * i) (b - 4 * i) c) s e r → d ≡ e → t ≡ r
-      → Onto (columns column (4 * n - 4 * i) (a - 4 * i) (b - 4 * i) c) s (columns column (4 * n - 4 * (i + 1)) (a - 4 * (i + 1)) (b - 4 * (i + 1)) d) t
-  columns_fours n i a b c d e s t r h k x y =
-      rw (left_fours (4 * n) i, left_fours a i, left_fours b i, x, y) (columns_on (4 * n - 4 * i) 4 (a - 4 * i) (b - 4 * i) c e s r (omega arith) k)
-
 -- ---- four at once
 
 -- a number below 256 to the 4, and what it is carried over
@@ -107,12 +99,6 @@ parted r o t e h = (omega arith, omega arith)
 lent : (r o x y c t : ℕ) → r + (y + c) ≡ x + o * 4294967296 → r < 4294967296 → y < 4294967296 → c ≤ 1 → o ≤ 1 → t ≡ x + (4294967295 - y) + (1 - c)
     → (t % 4294967296 ≡ r) × (1 - t / 4294967296 ≡ o)
 lent r o x y c t e h k l z f = let g : r + (1 - o) * 4294967296 ≡ t = omega arith in let p = parted r (1 - o) t g h in (p.0, omega arith)
-
--- operand 2 is as far from operand 1 in each four columns
-pub unharmed_left : (n i a b : ℕ) → i < n → 4 * n ≤ a + 1 → (n ≡ 0) ⊎ Unharmed 4 a b → Unharmed 4 (a - 4 * i) (b - 4 * i)
-unharmed_left n i a b h k (inl e) = absurd (omega arith)
-unharmed_left n i a b h k (inr (inl e)) = inl (omega arith)
-unharmed_left n i a b h k (inr (inr e)) = inr (omega arith)
 
 module _ (s : List ℕ) (a b : ℕ) (l : a < length s) (h : 4 ≤ a + 1) (k : 4 ≤ b + 1) (u : Unharmed 4 a b) where
   pub four_added : (c : Columns) (t : ℕ) → t ≡ number (bytes_of s 4 a) + number (bytes_of s 4 b) + c.over
@@ -139,43 +125,24 @@ module _ (s : List ℕ) (a b : ℕ) (l : a < length s) (h : 4 ≤ a + 1) (k : 4 
 abbrev pub with_four : List ℕ → ℕ → ℕ → List ℕ
 with_four s a v = set (set (set (set s a (v % 256)) (a - 1) (v / 256 % 256)) (a - 2) (v / 256 / 256 % 256)) (a - 3) (v / 256 / 256 / 256 % 256)
 
--- the sum of operand 1 and 2 and the carry, in four columns
-abbrev pub sum_of : List ℕ → ℕ → ℕ → ℕ → ℕ
-sum_of s x y c = number (bytes_of s 4 x) + number (bytes_of s 4 y) + c
+-- the sum in four columns of operand 1, of what is taken for operand 2, and of the carry
+abbrev pub sum_of : Bool → List ℕ → ℕ → ℕ → ℕ → ℕ
+sum_of less s x y up = number (bytes_of s 4 x) + taken less 4294967295 (number (bytes_of s 4 y)) + up
 
--- the sum of operand 1, of what operand 2 lacks of all ones, and of up, in four columns
-abbrev pub rest_of : List ℕ → ℕ → ℕ → ℕ → ℕ
-rest_of s x y up = number (bytes_of s 4 x) + (4294967295 - number (bytes_of s 4 y)) + up
+four_taken : (less : Bool) (s : List ℕ) (x y : ℕ) → x < length s → 4 ≤ x + 1 → 4 ≤ y + 1 → Unharmed 4 x y → Bytes s → (up : ℕ) → up ≤ 1 → (w : Bool)
+    → Gives (columns (column_of less) 4 x y (so_far less up w)) s (so_far less (sum_of less s x y up / 4294967296) (w && eqb (sum_of less s x y up % 4294967296) 0))
+    (placed s 4 x (sum_of less s x y up % 4294967296))
+unfolding so_far
+four_taken false s x y i j q u bytes up h w = four_added s x y i j q u _ _ refl
+four_taken true s x y i j q u bytes up h w =
+    let e : sum_of true s x y up ≡ number (bytes_of s 4 x) + (4294967295 - number (bytes_of s 4 y)) + (1 - (1 - up)) = omega arith in
+    four_subtracted s x y i j q u bytes _ (omega arith) _ e
 
--- the columns so far, where up is what isn't borrowed
-unfoldable pub lent_on : ℕ → Bool → Columns
-lent_on up clear = record { over = 1 - up; clear = clear }
-
-pub lent_is : (up : ℕ) (clear : Bool) → lent_on up clear ≡ record { over = 1 - up; clear = clear }
-unfolding lent_on
-lent_is up clear = refl
-
-pub lent_start : (n a b : ℕ) (r : List ℕ) → Leads (columns subtracted n a b fresh) r (columns subtracted n a b (lent_on 1 true)) r
-unfolding lent_on
-lent_start n a b r = record { gives = λ v u g. g }
-
-module _ (p : Prog Columns) (r : List ℕ) (n a b o : ℕ) (z : Bool) (t : List ℕ) (k x y : ℕ) (w : Bool) (s : List ℕ) where
-  pub add_fours_turn : (c : ℕ)
-      → Leads p r (columns added k x y (record { over = c; clear = w })) s → 4 ≤ k → n ≡ k - 4 → a ≡ x - 4 → b ≡ y - 4
-      → x < length s → 4 ≤ x + 1 → 4 ≤ y + 1 → Unharmed 4 x y
-      → o ≡ sum_of s x y c / 4294967296 → z ≡ (w && eqb (sum_of s x y c % 4294967296) 0) → t ≡ with_four s x (sum_of s x y c % 4294967296)
-      → Leads p r (columns added n a b (record { over = o; clear = z })) t
-  add_fours_turn c h l e f g i j q u d m v =
-      rw (e, f, g, d, m, v, placed_four s x (sum_of s x y c % 4294967296))
-      (record { gives = λ y' u' k'. h.gives y' u' (columns_on added k 4 x y _ _ s _ l (four_added s x y i j q u _ _ refl) y' u' k') })
-
-  pub subtract_fours_turn : (up : ℕ)
-      → Leads p r (columns subtracted k x y (lent_on up w)) s → 4 ≤ k → n ≡ k - 4 → a ≡ x - 4 → b ≡ y - 4
-      → x < length s → 4 ≤ x + 1 → 4 ≤ y + 1 → Unharmed 4 x y → Bytes s → up ≤ 1
-      → o ≡ rest_of s x y up / 4294967296 → z ≡ (w && eqb (rest_of s x y up % 4294967296) 0) → t ≡ with_four s x (rest_of s x y up % 4294967296)
-      → Leads p r (columns subtracted n a b (lent_on o z)) t
-  unfolding lent_on
-  subtract_fours_turn up h l e f g i j q u bytes up' d m v =
-      let lent : rest_of s x y up ≡ number (bytes_of s 4 x) + (4294967295 - number (bytes_of s 4 y)) + (1 - (1 - up)) = omega arith in
-      rw (e, f, g, d, m, v, placed_four s x (rest_of s x y up % 4294967296))
-      (record { gives = λ y' u' k'. h.gives y' u' (columns_on subtracted k 4 x y _ _ s _ l (four_subtracted s x y i j q u bytes _ (omega arith) _ lent) y' u' k') })
+pub fours_turn : (p : Prog Columns) (r : List ℕ) (less : Bool) (n a b o : ℕ) (z : Bool) (t : List ℕ) (k x y up : ℕ) (w : Bool) (s : List ℕ)
+    → Leads p r (columns (column_of less) k x y (so_far less up w)) s → 4 ≤ k → n ≡ k - 4 → a ≡ x - 4 → b ≡ y - 4
+    → x < length s → 4 ≤ x + 1 → 4 ≤ y + 1 → Unharmed 4 x y → Bytes s → up ≤ 1
+    → o ≡ sum_of less s x y up / 4294967296 → z ≡ (w && eqb (sum_of less s x y up % 4294967296) 0) → t ≡ with_four s x (sum_of less s x y up % 4294967296)
+    → Leads p r (columns (column_of less) n a b (so_far less o z)) t
+fours_turn p r less n a b o z t k x y up w s h l e f g i j q u bytes up' d m v =
+    rw (e, f, g, d, m, v, placed_four s x (sum_of less s x y up % 4294967296))
+    (record { gives = λ y' u' k'. h.gives y' u' (columns_on (column_of less) k 4 x y _ _ s _ l (four_taken less s x y i j q u bytes up up' w) y' u' k') })

@@ -1,5 +1,4 @@
 pub mod Turns
 pub mod Fours
-pub mod TwoFields
+pub mod Orders
 pub mod Ways
-pub mod Rules

@@ -1,10 +1,9 @@
 -- MVC, ALC and SLC, turn by turn of a loop that goes by an index i. What carries it: what is left to do gives what the whole gives.
-use mathlib.Core.Path.{◌≡◌, refl}
-use mathlib.Core.Bool.{Bool, cond, ◌&&◌}
+use mathlib.Core.Path.{◌≡◌, refl, ◌∙◌}
+use mathlib.Core.Bool.{Bool, true, false, cond, ◌&&◌}
 use mathlib.Core.List.{List}
 use Prim.Native.Nat.{ℕ, suc, ◌+◌, ◌-◌, ◌/◌, ◌%◌, ◌<◌, ◌≤◌}
 use native.Mathlib.Decide.{dec_lt}
-use native.Mathlib.Nat.{sub-zero}
 use native.Mathlib.Omega.{arith}
 use lib.Dec.{eqb, ltb}
 use lib.ListN.{get_or, set}
@@ -15,6 +14,7 @@ use Rattle.manual.specs.Places.{state}
 use Rattle.manual.specs.Programs.{Prog, val, fin}
 use Rattle.manual.specs.Logical.{Column, copy, columns, added, subtracted}
 use Rattle.manual.specs.Step.{Gives}
+use Rattle.logical.specs.Columns.{column_of, taken, over_of}
 use Rattle.manual.proofs.Sums.{bytes_next, columns_after}
 
 module _ {A : Type 0} where
@@ -55,37 +55,37 @@ borrowed t x y c h k = go (dec_lt x (y + c))
     go (yes e) = rw (lt-ltb x (y + c) e) (omega arith)
     go (no e) = let f : y + c ≤ x = omega arith in rw (le-ltb x (y + c) f) (omega arith)
 
+-- the columns so far, by the carry as the code holds it
+unfoldable pub so_far : Bool → ℕ → Bool → Columns
+so_far less carry clear = record { over = over_of less carry; clear = clear }
+
+pub so_far_is : (less : Bool) (carry : ℕ) (clear : Bool) → so_far less carry clear ≡ record { over = over_of less carry; clear = clear }
+unfolding so_far
+so_far_is less carry clear = refl
+
 module _ (p : Prog Columns) (r : List ℕ) where
-  pub columns_one : (column : ℕ → ℕ → ℕ → Column) (n x y : ℕ) (c : Columns) (s : List ℕ)
+  columns_one : (column : ℕ → ℕ → ℕ → Column) (n x y : ℕ) (c : Columns) (s : List ℕ)
       → Leads p r (columns column (suc n) x y c) s → Leads p r (columns column n (x - 1) (y - 1) (columns_after column s x y c)) (bytes_next column s x y c)
   unfolding val fin columns
   columns_one column n x y c s h = record { gives = λ v u g. h.gives v u g }
 
-  pub columns_turn : (column : ℕ → ℕ → ℕ → Column) (n a b : ℕ) (d : Columns) (t : List ℕ) (k x y : ℕ) (c : Columns) (s : List ℕ)
+  columns_turn : (column : ℕ → ℕ → ℕ → Column) (n a b : ℕ) (d : Columns) (t : List ℕ) (k x y : ℕ) (c : Columns) (s : List ℕ)
       → Leads p r (columns column k x y c) s → 0 < k → n ≡ k - 1 → a ≡ x - 1 → b ≡ y - 1 → d ≡ columns_after column s x y c → t ≡ bytes_next column s x y c
       → Leads p r (columns column n a b d) t
   columns_turn column n a b d t k x y c s h l e f g u v =
       let i : k ≡ suc n = omega arith in
       rw (f, g, u, v) (columns_one column n x y c s (rw i at h))
 
-  pub add_turn : (n a b o : ℕ) (z : Bool) (t : List ℕ) (k x y c : ℕ) (w : Bool) (s : List ℕ)
-      → Leads p r (columns added k x y (record { over = c; clear = w })) s → 0 < k → n ≡ k - 1 → a ≡ x - 1 → b ≡ y - 1
-      → o ≡ (get_or s x 0 + get_or s y 0 + c) / 256 → z ≡ (w && eqb ((get_or s x 0 + get_or s y 0 + c) % 256) 0)
-      → t ≡ set s x ((get_or s x 0 + get_or s y 0 + c) % 256)
-      → Leads p r (columns added n a b (record { over = o; clear = z })) t
-  add_turn n a b o z t k x y c w s h l e f g i j q = columns_turn added n a b _ t k x y _ s h l e f g (rw (i, j)) q
-
-  pub subtract_turn : (n a b o : ℕ) (z : Bool) (t : List ℕ) (k x y c : ℕ) (w : Bool) (s : List ℕ)
-      → Leads p r (columns subtracted k x y (record { over = c; clear = w })) s → 0 < k → n ≡ k - 1 → a ≡ x - 1 → b ≡ y - 1
-      → get_or s x 0 + 256 - (get_or s y 0 + c) < 512
-      → o ≡ 1 - (get_or s x 0 + 256 - (get_or s y 0 + c)) / 256 → z ≡ (w && eqb ((get_or s x 0 + 256 - (get_or s y 0 + c)) % 256) 0)
-      → t ≡ set s x ((get_or s x 0 + 256 - (get_or s y 0 + c)) % 256)
-      → Leads p r (columns subtracted n a b (record { over = o; clear = z })) t
-  subtract_turn n a b o z t k x y c w s h l e f g u i j q =
-      columns_turn subtracted n a b _ t k x y _ s h l e f g (rw (i, j, borrowed _ (get_or s x 0) (get_or s y 0) c refl u)) q
-
-  pub columns_here : (column : ℕ → ℕ → ℕ → Column) (n a b : ℕ) (c : Columns) (o : ℕ) → o ≡ c.over → Leads (columns column n a b c) r (columns column n a b (record { over = o; clear = c.clear })) r
-  columns_here column n a b c o e = rw e (leads_from (columns column n a b c) r)
+  pub ones_turn : (less : Bool) (n a b o : ℕ) (z : Bool) (t : List ℕ) (k x y up : ℕ) (w : Bool) (s : List ℕ)
+      → Leads p r (columns (column_of less) k x y (so_far less up w)) s → 0 < k → n ≡ k - 1 → a ≡ x - 1 → b ≡ y - 1 → up ≤ 1 → get_or s x 0 < 256 → get_or s y 0 < 256
+      → o ≡ (get_or s x 0 + taken less 255 (get_or s y 0) + up) / 256 → z ≡ (w && eqb ((get_or s x 0 + taken less 255 (get_or s y 0) + up) % 256) 0)
+      → t ≡ set s x ((get_or s x 0 + taken less 255 (get_or s y 0) + up) % 256)
+      → Leads p r (columns (column_of less) n a b (so_far less o z)) t
+  unfolding so_far
+  ones_turn false n a b o z t k x y up w s h l e f g u v v' i j q = columns_turn added n a b _ t k x y _ s h l e f g (rw (i, j)) q
+  ones_turn true n a b o z t k x y up w s h l e f g u v v' i j q =
+      let d : get_or s x 0 + (255 - get_or s y 0) + up ≡ get_or s x 0 + 256 - (get_or s y 0 + (1 - up)) = omega arith in
+      columns_turn subtracted n a b _ t k x y _ s h l e f g (rw (i, j, d, borrowed _ (get_or s x 0) (get_or s y 0) (1 - up) refl (omega arith)) refl) (q ∙ rw d refl)
 
   pub columns_end_val : (column : ℕ → ℕ → ℕ → Column) (k x y : ℕ) (c : Columns) (s : List ℕ) → Leads p r (columns column k x y c) s → k ≡ 0 → (m : Machine) → val p (state m r) ≡ c
   unfolding val fin columns
@@ -95,14 +95,8 @@ module _ (p : Prog Columns) (r : List ℕ) where
   unfolding val fin columns
   columns_end_fin column k x y c s h e m = ((rw (e, columns) at h.gives) c s (λ m. (refl, refl)) m).1
 
--- what isn't borrowed, twice
-pub unborrowed : (up : ℕ) → up ≤ 1 → 1 - (1 - up) ≡ up
-unborrowed up h = omega arith
-
-module _ (column : ℕ → ℕ → ℕ → Column) where
-  pub columns_start : (n a b : ℕ) (c : Columns) (s : List ℕ) → Leads (columns column n a b c) s (columns column (n - 0) (a - 0) (b - 0) c) s
-  columns_start n a b c s = simp sub-zero (leads_from (columns column n a b c) s)
-
-  pub columns_end : (n i a b : ℕ) (c : Columns) (s : List ℕ) → n ≤ i → Gives (columns column (n - i) a b c) s c s
-  unfolding val fin columns
-  columns_end n i a b c s h = let e : n - i ≡ 0 = omega arith in rw (e, columns) (λ m. (refl, refl))
+pub so_far_from : (less : Bool) (n a b : ℕ) (c : Columns) (up : ℕ) (r : List ℕ) → c.over ≤ 1 → up ≡ over_of less c.over
+    → Leads (columns (column_of less) n a b c) r (columns (column_of less) n a b (so_far less up c.clear)) r
+unfolding so_far
+so_far_from false n a b c up r h e = rw e (leads_from (columns added n a b c) r)
+so_far_from true n a b c up r h e = let k : 1 - up ≡ c.over = omega arith in rw k (leads_from (columns subtracted n a b c) r)

@@ -1,62 +1,36 @@
--- What stands in the way of a rule, by the end that the code tells. What carries it: cases.
-use mathlib.Core.Path.{◌≡◌, refl, sym, ap, ◌∙◌}
-use mathlib.Core.Bool.{Bool, true, false, cond, ◌&&◌, false≢true}
-use Prim.Native.Nat.{ℕ, ◌+◌}
-use lib.Dec.{ltb, leb}
-use Rattle.manual.specs.declared.Stop.TheVariants.{OperandOutside}
+-- What stands in the way of a rule, by what the code's tests of both operands gave. What carries it: cases.
+use Rattle.std.proofs.Common.{◌≡◌, ℕ, ◌+◌, ◌<◌, ◌≤◌, Ok, Err, refl}
+use Rattle.manual.specs.declared.Stop.{Stop}
 use Rattle.manual.specs.declared.Way.{Way}
 use Rattle.manual.specs.declared.Way.TheVariants.{Clear, Barred}
 use Rattle.manual.specs.Programs.{and_then}
 use Rattle.manual.specs.Formats.{reach}
-use Rattle.manual.proofs.Running.{doing}
-use Rattle.parts.specs.declared.End.{End}
-use Rattle.parts.specs.declared.End.TheVariants.{Outside}
-use Rattle.parts.specs.Inside.{end_of, is_gone}
-use Rattle.parts.proofs.Reaching.{reached_in, both_reached}
+use Rattle.manual.proofs.Running.{doing, reach_clear}
+use Rattle.parts.specs.Leaf.{way}
 
--- either nothing stands in the way, or an operand that isn't in storage
-Either : Way → Type 0
-Either w = (e : End) → e ≡ end_of w → ((is_gone e ≡ true → w ≡ Clear) × (is_gone e ≡ false → (w ≡ Barred OperandOutside) × (e ≡ Outside)))
+clear_way : (w : Way) → Ok tt ≡ way w → w ≡ Clear
+clear_way Clear e = refl
+clear_way (Barred x) e = cc
 
-either_clear : Either Clear
-unfolding Either
-either_clear e h = (λ g. refl, λ g. absurd (false≢true (sym g ∙ ap is_gone h)))
+barred_way : (w : Way) (x : Stop) → Err x ≡ way w → w ≡ Barred x
+barred_way Clear x e = cc
+barred_way (Barred y) x e = cc
 
-either_barred : Either (Barred OperandOutside)
-unfolding Either
-either_barred e h = (λ g. absurd (false≢true (sym (ap is_gone h) ∙ g)), λ g. (refl, h))
+module _ (size n a : ℕ) where
+  pub reached : Ok tt ≡ way (reach size n a) → (a < size) × (n ≤ a + 1)
+  reached e = reach_clear size n a (rw (clear_way _ e) refl)
 
-either_cond : (b : Bool) → Either (cond b Clear (Barred OperandOutside))
-either_cond true = either_clear
-either_cond false = either_barred
+  module _ (k b : ℕ) where
+    pub both_clear : Ok tt ≡ way (reach size n a) → Ok tt ≡ way (reach size k b) → and_then (reach size n a) (reach size k b) ≡ Clear
+    unfolding and_then
+    both_clear e f = rw (clear_way _ e, clear_way _ f) refl
 
-either_reach : (size n a : ℕ) → Either (reach size n a)
-unfolding reach
-either_reach size n a = either_cond (ltb a size && leb n (a + 1))
+    pub first_barred : (x : Stop) → Err x ≡ way (reach size n a) → and_then (reach size n a) (reach size k b) ≡ Barred x
+    unfolding and_then
+    first_barred x e = rw (barred_way _ x e) refl
 
-either_both : (b : Bool) (w : Way) → Either w → Either (and_then (cond b Clear (Barred OperandOutside)) w)
-unfolding and_then
-either_both true w h = h
-either_both false w h = either_barred
+    pub second_barred : (x : Stop) → Ok tt ≡ way (reach size n a) → Err x ≡ way (reach size k b) → and_then (reach size n a) (reach size k b) ≡ Barred x
+    unfolding and_then
+    second_barred x e f = rw (clear_way _ e, barred_way _ x f) refl
 
-either_two : (size n₁ a₁ n₂ a₂ : ℕ) → Either (and_then (reach size n₁ a₁) (reach size n₂ a₂))
-either_two size n₁ a₁ n₂ a₂ = unfold reach in either_both (ltb a₁ size && leb n₁ (a₁ + 1)) _ (either_reach size n₂ a₂)
-
-pub one_clear : (size n a : ℕ) (e : End) → e ≡ end_of (reach size n a) → is_gone e ≡ true → reach size n a ≡ Clear
-unfolding Either
-one_clear size n a e h g = (either_reach size n a e h).0 g
-
-pub one_barred : (size n a : ℕ) (e : End) → e ≡ end_of (reach size n a) → is_gone e ≡ false → (reach size n a ≡ Barred OperandOutside) × (e ≡ Outside)
-unfolding Either
-one_barred size n a e h g = (either_reach size n a e h).1 g
-
-pub two_clear : (size n₁ a₁ n₂ a₂ : ℕ) (e : End) → e ≡ end_of (and_then (reach size n₁ a₁) (reach size n₂ a₂)) → is_gone e ≡ true → and_then (reach size n₁ a₁) (reach size n₂ a₂) ≡ Clear
-unfolding Either
-two_clear size n₁ a₁ n₂ a₂ e h g = (either_two size n₁ a₁ n₂ a₂ e h).0 g
-
-pub two_barred : (size n₁ a₁ n₂ a₂ : ℕ) (e : End) → e ≡ end_of (and_then (reach size n₁ a₁) (reach size n₂ a₂)) → is_gone e ≡ false
-    → (and_then (reach size n₁ a₁) (reach size n₂ a₂) ≡ Barred OperandOutside) × (e ≡ Outside)
-unfolding Either
-two_barred size n₁ a₁ n₂ a₂ e h g = (either_two size n₁ a₁ n₂ a₂ e h).1 g
-
-pub ruleset leaves = (doing, reached_in, both_reached, one_clear, one_barred, two_clear, two_barred)
+pub ruleset leaves = (doing, reached, both_clear, first_barred, second_barred)

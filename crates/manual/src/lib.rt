@@ -169,14 +169,14 @@ pub enum Decoded {
     NotFound(Stop),
 }
 
-// An instruction with the addresses of its operands: what a rule and a leaf see. Addresses have the width of an index.
+// An instruction with the addresses of its operands: what a rule and a leaf see.
 #[derive(Clone, Copy)]
 pub struct Fields {
     pub q: u8,
     pub r: u8,
-    pub a1: usize,
-    pub a2: usize,
-    pub next: usize,
+    pub a1: u16,
+    pub a2: u16,
+    pub next: u16,
 }
 
 // What ALC and SLC carry from column to column: the carry or borrow, and whether every result byte so far is zero.

@@ -1,11 +1,18 @@
--- How decoding that found no instruction ends an inner step.
+-- How decoding that found no instruction ends a step.
+use Rattle.std.specs.Prelude.{Bool, true, false}
 use Rattle.decode.specs.declared.Fetched.{Fetched}
 use Rattle.decode.specs.declared.Fetched.TheVariants.{Go, PastStorage, Unnamed, QNotAllowed}
-use Rattle.parts.specs.declared.End.{End}
-use Rattle.parts.specs.declared.End.TheVariants.{Gone, Short, NoOpcode, BadQ}
+use Rattle.manual.specs.declared.Stop.{Stop}
+use Rattle.manual.specs.declared.Stop.TheVariants.{CutShort, OpcodeUnknown, QRefused}
 
-abbrev pub fetch_end : Fetched → End
-fetch_end (Go op f) = Gone
-fetch_end PastStorage = Short
-fetch_end Unnamed = NoOpcode
-fetch_end QNotAllowed = BadQ
+abbrev pub fetch_stop : Fetched → Stop
+fetch_stop (Go op q r a1 a2 next) = CutShort
+fetch_stop PastStorage = CutShort
+fetch_stop Unnamed = OpcodeUnknown
+fetch_stop QNotAllowed = QRefused
+
+abbrev pub is_go : Fetched → Bool
+is_go (Go op q r a1 a2 next) = true
+is_go PastStorage = false
+is_go Unnamed = false
+is_go QNotAllowed = false

@@ -151,7 +151,7 @@ module _ (s : List ℕ) (n a : ℕ) (inn : a < length s) (fits : n ≤ a + 1) (g
 
 -- ---- operand 2 copied
 
-module _ (s : List ℕ) (q a1 a2 status : ℕ) (ready : Ready s q a1 a2 status) (byte : q < 256) (d : List ℕ)
+module _ (s : List ℕ) (q a1 a2 status : ℕ) (ready : Ready s q a1 a2) (byte : q < 256) (d : List ℕ)
     (e : d ≡ written (replicate 31 0) (l2 q) 30 (λ j. get_or s (a2 - j) 0)) where
   copy_is : size (bytes_of d (l1 q) 30) ≡ size (bytes_of s (l2 q) a2)
   copy_is = copy_size s (l2 q) a2 (l1 q) d e ready.digits_two (omega arith) (omega arith)
@@ -207,7 +207,7 @@ module _ (s : List ℕ) (q a1 a2 status : ℕ) (ready : Ready s q a1 a2 status) 
 
 -- ---- by the calls' promises: k, n, m and l are what the calls of l2 and l1 answer
 
-module _ (s : List ℕ) (q a1 a2 status : ℕ) (ready : Ready s q a1 a2 status) (byte : q < 256) (d : List ℕ) (k : ℕ)
+module _ (s : List ℕ) (q a1 a2 status : ℕ) (ready : Ready s q a1 a2) (byte : q < 256) (d : List ℕ) (k : ℕ)
     (e : d ≡ written (replicate 31 0) k 30 (λ j. get_or s (a2 - j) 0)) (two : k ≡ l2 q) where
   whole : d ≡ written (replicate 31 0) (l2 q) 30 (λ j. get_or s (a2 - j) 0)
   whole = rw two at e

@@ -5,9 +5,11 @@ use mathlib.Core.List.{List}
 use Prim.Native.Nat.{ℕ, ◌+◌, ◌≤◌, ◌<◌}
 use lib.IntN.{ℤ}
 use lib.ListN.{length}
+use Rattle.std.specs.Prelude.{Result, Ok, Err}
 use Rattle.manual.specs.declared.Machine.{Machine}
 use Rattle.manual.specs.declared.Fields.{Fields}
-use Rattle.manual.specs.declared.Answer.TheVariants.{Executed}
+use Rattle.manual.specs.declared.Answer.TheVariants.{Executed, Stopped}
+use Rattle.manual.specs.declared.Stop.{Stop}
 use Rattle.manual.specs.declared.Stop.TheVariants.{DigitRefused}
 use Rattle.manual.specs.declared.Way.{Way}
 use Rattle.manual.specs.declared.Way.TheVariants.{Clear, Barred}
@@ -17,27 +19,20 @@ use Rattle.manual.specs.Formats.{reach}
 use Rattle.manual.specs.Values.{bytes_of, value, all_digits, digits_of}
 use Rattle.manual.specs.Zoned.{l1, l2, zoned_reach, put_result, zaz, combine}
 use Rattle.manual.specs.Step.{ended, moved, given, did}
-use Rattle.manual.proofs.Running.{from, did_from, from_bind, val_leftward, fin_leftward, both_clear, reach_clear}
+use Rattle.manual.proofs.Running.{from, did_from, from_bind, from_barred, val_leftward, fin_leftward, unless_clear, both_clear, reach_clear}
 use Rattle.manual.proofs.ZonedRead.{put_left}
-use Rattle.parts.specs.declared.Core.{Core}
-use Rattle.parts.specs.declared.End.{End}
-use Rattle.parts.specs.declared.End.TheVariants.{Gone}
-use Rattle.parts.specs.declared.Went.{Went}
-use Rattle.parts.specs.Inside.{machine_of, moved_to, end_of, is_gone, answer_at, LeafDoes}
-use Rattle.parts.proofs.Reaching.{Told, gone_clear, end_both, reach_told, both_told, stops, goes, is_clear}
+use Rattle.parts.specs.Leaf.{way, Does}
 use Rattle.zoned.specs.Working.{zaz_way, combine_way, Ready, Left}
 
--- ---- one test after another
-
-module _ (v w : Way) (e : End) (h : e ≡ end_of v) where
-  pub ends_first : is_gone e ≡ false → e ≡ end_of (and_then v w)
-  ends_first g =
-      h ∙ sym (end_both v w ∙ ap (λ (b : Bool). cond b (end_of w) (end_of v)) (sym (gone_clear v) ∙ sym (ap is_gone h) ∙ g))
-
-  pub ends_second : is_gone e ≡ true → (d : End) → d ≡ end_of w → d ≡ end_of (and_then v w)
-  ends_second g d k = k ∙ sym (end_both v w ∙ ap (λ (b : Bool). cond b (end_of w) (end_of v)) (is_clear v e h g))
-
 -- ---- what a clear way tells
+
+way_clear : (w : Way) → Ok tt ≡ way w → clear w ≡ true
+way_clear Clear e = refl
+way_clear (Barred x) e = cc
+
+way_barred : (w : Way) (x : Stop) → Err x ≡ way w → w ≡ Barred x
+way_barred Clear x e = cc
+way_barred (Barred y) x e = cc
 
 good : (b : Bool) → clear (cond b Clear (Barred DigitRefused)) ≡ true → b ≡ true
 good true e = refl
@@ -53,12 +48,8 @@ lies size n1 a1 n2 a2 e =
     let k = both_clear (reach size n1 a1) (reach size n2 a2) e in
     (reach_clear size n1 a1 k.0, reach_clear size n2 a2 k.1)
 
-pub reached : (size n1 a1 n2 a2 : ℕ) (e : End) → e ≡ end_of (and_then (reach size n1 a1) (reach size n2 a2)) → is_gone e ≡ true
-    → ((a1 < size) × (n1 ≤ a1 + 1)) × ((a2 < size) × (n2 ≤ a2 + 1))
-reached size n1 a1 n2 a2 e h g = lies size n1 a1 n2 a2 (is_clear (and_then (reach size n1 a1) (reach size n2 a2)) e h g)
-
-ready : (s : List ℕ) (q a1 a2 status : ℕ) → status < 64 → clear (zaz_way s q a1 a2) ≡ true → Ready s q a1 a2 status
-ready s q a1 a2 status below e =
+ready : (s : List ℕ) (q a1 a2 : ℕ) → clear (zaz_way s q a1 a2) ≡ true → Ready s q a1 a2
+ready s q a1 a2 e =
     let k = both_clear _ (digits_of (bytes_of s (l2 q) a2)) e in
     let l = lies (length s) (l1 q) a1 (l2 q) a2 k.0 in
     record {
@@ -67,23 +58,21 @@ ready s q a1 a2 status below e =
       inside_two = l.1.0;
       fits_two = l.1.1;
       digits_two = digits_good (bytes_of s (l2 q) a2) k.1;
-      status_small = below;
     }
 
--- the premises stand as the calls' promises: b is the test's answer
-module _ (s : List ℕ) (q a1 a2 status : ℕ) (e : End) (b : Bool) where
-  pub zaz_ready : status < 64 → e ≡ end_of (zaz_way s q a1 a2) → b ≡ is_gone e → b ≡ true → Ready s q a1 a2 status
-  zaz_ready below h g t = ready s q a1 a2 status below (is_clear (zaz_way s q a1 a2) e h (sym g ∙ t))
+-- the premises stand as the calls' promises
+module _ (s : List ℕ) (q a1 a2 : ℕ) where
+  pub zaz_ready : Ok tt ≡ way (zaz_way s q a1 a2) → Ready s q a1 a2
+  zaz_ready h = ready s q a1 a2 (way_clear (zaz_way s q a1 a2) h)
 
-  combine_clear : e ≡ end_of (combine_way s q a1 a2) → b ≡ is_gone e → b ≡ true
-      → (clear (zaz_way s q a1 a2) ≡ true) × (clear (digits_of (bytes_of s (l1 q) a1)) ≡ true)
-  combine_clear h g t = both_clear (zaz_way s q a1 a2) (digits_of (bytes_of s (l1 q) a1)) (is_clear (combine_way s q a1 a2) e h (sym g ∙ t))
+  combine_clear : Ok tt ≡ way (combine_way s q a1 a2) → (clear (zaz_way s q a1 a2) ≡ true) × (clear (digits_of (bytes_of s (l1 q) a1)) ≡ true)
+  combine_clear h = both_clear (zaz_way s q a1 a2) (digits_of (bytes_of s (l1 q) a1)) (way_clear (combine_way s q a1 a2) h)
 
-  pub combine_ready : status < 64 → e ≡ end_of (combine_way s q a1 a2) → b ≡ is_gone e → b ≡ true → Ready s q a1 a2 status
-  combine_ready below h g t = ready s q a1 a2 status below (combine_clear h g t).0
+  pub combine_ready : Ok tt ≡ way (combine_way s q a1 a2) → Ready s q a1 a2
+  combine_ready h = ready s q a1 a2 (combine_clear h).0
 
-  pub combine_digits : e ≡ end_of (combine_way s q a1 a2) → b ≡ is_gone e → b ≡ true → all_digits (bytes_of s (l1 q) a1) ≡ true
-  combine_digits h g t = digits_good (bytes_of s (l1 q) a1) (combine_clear h g t).1
+  pub combine_digits : Ok tt ≡ way (combine_way s q a1 a2) → all_digits (bytes_of s (l1 q) a1) ≡ true
+  combine_digits h = digits_good (bytes_of s (l1 q) a1) (combine_clear h).1
 
 -- ---- the rules, with all that stands in their way in front
 
@@ -117,48 +106,30 @@ module _ (m : Machine) (s : List ℕ) where
         then_from (zoned_reach f (length s)) (and_then (digits_of ys) (digits_of xs)) _ _ (state m s) (simp (from_bind, val_leftward, fin_leftward)) ∙
         ap (λ (w : Way). from m s (unless w (put_result f (op (value xs) (value ys)) (given m s))) (state m s)) (and_assoc (zoned_reach f (length s)) (digits_of ys) (digits_of xs))
 
--- ---- how the leaves end
-
-digits_told : (bs : List ℕ) → Told (digits_of bs)
-unfolding digits_of
-digits_told bs = go (all_digits bs)
-  where
-    go : (b : Bool) → Told (cond b Clear (Barred DigitRefused))
-    go true = tt
-    go false = λ q r. refl
-
-zaz_told : (s : List ℕ) (q a1 a2 : ℕ) → Told (zaz_way s q a1 a2)
-zaz_told s q a1 a2 =
-    both_told _ _ (both_told _ _ (reach_told (length s) (l1 q) a1) (reach_told (length s) (l2 q) a2)) (digits_told (bytes_of s (l2 q) a2))
-
-combine_told : (s : List ℕ) (q a1 a2 : ℕ) → Told (combine_way s q a1 a2)
-combine_told s q a1 a2 = both_told (zaz_way s q a1 a2) _ (zaz_told s q a1 a2) (digits_told (bytes_of s (l1 q) a1))
+-- ---- how the leaves end, with the calls' promises for premises
 
 module _ (m : Machine) (s : List ℕ) (f : Fields) where
-  module _ (rule : Rule) (w : Way) (x : ℤ) (told : Told w) (behind : did m s rule ≡ from m s (unless w (put_result f x (given m s))) (state m s))
-      (e : End) (h : e ≡ end_of w) where
-    leaf_stops : is_gone e ≡ false → ended m (answer_at e f.q f.r) s ≡ did m s rule
-    leaf_stops g = stops m s w (put_result f x (given m s)) (state m s) e f.q f.r told h g ∙ sym behind
+  module _ (rule : Rule) (w : Way) (x : ℤ) (behind : did m s rule ≡ from m s (unless w (put_result f x (given m s))) (state m s)) where
+    leaf_stops : (y : Stop) → Err y ≡ way w → ended m (Stopped y) s ≡ did m s rule
+    leaf_stops y h = sym (behind ∙ (rw (way_barred w y h) (from_barred m s y (put_result f x (given m s)) (state m s))))
 
-    leaf_goes : is_gone e ≡ true → (k : ℕ) (t : List ℕ) → Left s (l1 f.q) f.a1 m.status x k t → ended (moved m f.next k) Executed t ≡ did m s rule
-    leaf_goes g k t l = rw (l.storage, l.status_after) (sym (behind ∙ goes m s w (put_result f x (given m s)) (state m s) e h g ∙ put_left m s f x))
+    leaf_goes : Ok tt ≡ way w → (k : ℕ) (t : List ℕ) → Left s (l1 f.q) f.a1 m.status x k t → ended (moved m f.next k) Executed t ≡ did m s rule
+    leaf_goes h k t l =
+        rw (l.storage, l.status_after)
+        (sym (behind ∙ ap (λ (p : Prog Out). from m s p (state m s)) (unless_clear w (put_result f x (given m s)) (way_clear w h)) ∙ put_left m s f x))
 
--- the same with the calls' promises for premises: b is the test's answer, g what is returned
-module _ (c : Core) (s : List ℕ) (f : Fields) (e : End) (b : Bool) where
-  pub zaz_stops : e ≡ end_of (zaz_way s f.q f.a1 f.a2) → b ≡ is_gone e → b ≡ false → (g : Went) → g ≡ record { core = c; end = e } → LeafDoes c s f (zaz f) g s
-  zaz_stops h i d g is = rw is (leaf_stops (machine_of c) s f (zaz f) _ _ (zaz_told s f.q f.a1 f.a2) (zaz_behind (machine_of c) s f) e h (sym i ∙ d))
+  pub zaz_stops : (y : Stop) (r : Result (Unit {0}) Stop) → Err y ≡ way (zaz_way s f.q f.a1 f.a2) → r ≡ Err y → Does (zaz f) m s r m s
+  zaz_stops y r h e = rw e (leaf_stops (zaz f) _ _ (zaz_behind m s f) y h)
 
-  pub zaz_goes : e ≡ end_of (zaz_way s f.q f.a1 f.a2) → b ≡ is_gone e → b ≡ true
-      → (k : ℕ) (t : List ℕ) → Left s (l1 f.q) f.a1 c.status (value (bytes_of s (l2 f.q) f.a2)) k t
-      → (g : Went) → g ≡ record { core = moved_to c f.next k; end = Gone } → LeafDoes c s f (zaz f) g t
-  zaz_goes h i d k t l g is = rw is (leaf_goes (machine_of c) s f (zaz f) _ _ (zaz_told s f.q f.a1 f.a2) (zaz_behind (machine_of c) s f) e h (sym i ∙ d) k t l)
+  pub zaz_goes : Ok tt ≡ way (zaz_way s f.q f.a1 f.a2)
+      → (k : ℕ) (t : List ℕ) → Left s (l1 f.q) f.a1 m.status (value (bytes_of s (l2 f.q) f.a2)) k t → Does (zaz f) m s (Ok tt) (moved m f.next k) t
+  zaz_goes = leaf_goes (zaz f) _ _ (zaz_behind m s f)
 
   module _ (op : ℤ → ℤ → ℤ) where
-    pub combine_stops : e ≡ end_of (combine_way s f.q f.a1 f.a2) → b ≡ is_gone e → b ≡ false → (g : Went) → g ≡ record { core = c; end = e } → LeafDoes c s f (combine op f) g s
-    combine_stops h i d g is = rw is (leaf_stops (machine_of c) s f (combine op f) _ _ (combine_told s f.q f.a1 f.a2) (combine_behind (machine_of c) s f op) e h (sym i ∙ d))
+    pub combine_stops : (y : Stop) (r : Result (Unit {0}) Stop) → Err y ≡ way (combine_way s f.q f.a1 f.a2) → r ≡ Err y → Does (combine op f) m s r m s
+    combine_stops y r h e = rw e (leaf_stops (combine op f) _ _ (combine_behind m s f op) y h)
 
-    pub combine_goes : e ≡ end_of (combine_way s f.q f.a1 f.a2) → b ≡ is_gone e → b ≡ true
-        → (k : ℕ) (t : List ℕ) → Left s (l1 f.q) f.a1 c.status (op (value (bytes_of s (l1 f.q) f.a1)) (value (bytes_of s (l2 f.q) f.a2))) k t
-        → (g : Went) → g ≡ record { core = moved_to c f.next k; end = Gone } → LeafDoes c s f (combine op f) g t
-    combine_goes h i d k t l g is =
-        rw is (leaf_goes (machine_of c) s f (combine op f) _ _ (combine_told s f.q f.a1 f.a2) (combine_behind (machine_of c) s f op) e h (sym i ∙ d) k t l)
+    pub combine_goes : Ok tt ≡ way (combine_way s f.q f.a1 f.a2)
+        → (k : ℕ) (t : List ℕ) → Left s (l1 f.q) f.a1 m.status (op (value (bytes_of s (l1 f.q) f.a1)) (value (bytes_of s (l2 f.q) f.a2))) k t
+        → Does (combine op f) m s (Ok tt) (moved m f.next k) t
+    combine_goes = leaf_goes (combine op f) _ _ (combine_behind m s f op)

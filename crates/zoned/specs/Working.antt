@@ -19,13 +19,12 @@ abbrev pub combine_way : List ℕ → ℕ → ℕ → ℕ → Way
 combine_way s q a1 a2 = and_then (zaz_way s q a1 a2) (digits_of (bytes_of s (l1 q) a1))
 
 -- nothing stands in the way of ZAZ
-pub record Ready (s : List ℕ) (q a1 a2 status : ℕ) : Type 0 where
+pub record Ready (s : List ℕ) (q a1 a2 : ℕ) : Type 0 where
   pub inside_one : a1 < length s
   pub fits_one : l1 q ≤ a1 + 1
   pub inside_two : a2 < length s
   pub fits_two : l2 q ≤ a2 + 1
   pub digits_two : all_digits (bytes_of s (l2 q) a2) ≡ true
-  pub status_small : status < 64
 
 -- ---- bytes from the left
 

@@ -7,11 +7,11 @@ ghost use Rattle.manual.specs.Values.{bytes_of, digit, size, value, all_digits, 
 ghost use Rattle.manual.specs.Zoned.{l1, l2, zaz, az, sz};
 ghost use Rattle.manual.proofs.FieldBytes.{written};
 ghost use Rattle.manual.proofs.ZonedRead.{zoned_bytes};
-ghost use Rattle.parts.specs.Inside.{end_of, LeafDoes, Within};
+ghost use Rattle.parts.specs.Leaf.{way, Does};
 ghost use Rattle.zoned.specs.Working.{zaz_way, combine_way, Ready, Digits, Zones, Field, still, alone, round_of, taken, Operands, sum_of, sign_put, finished, signed_sum, Left};
 
-use manual::Fields;
-use parts::{Core, End, Went};
+use manual::{Fields, Machine, Stop};
+use parts::reach;
 
 // ---- what stands in the way
 
@@ -19,13 +19,13 @@ use parts::{Core, End, Went};
 fn l2(q: u8) -> usize
     ensures { result ≡ l2 q }
 {
-    parts::wide(q % 16) + 1
+    (q % 16) as usize + 1
 }
 
 fn l1(q: u8) -> usize
     ensures { result ≡ l1 q }
 {
-    parts::wide(q / 16) + l2(q)
+    (q / 16) as usize + l2(q)
 }
 
 // Whether one of k digits is above 9: by rising addresses and without an early way out, so that the compiler takes many at a time.
@@ -68,38 +68,33 @@ fn has_bad(s: &[u8], n: usize, a: usize) -> bool
 
 // A digit above 9 stops with 8.
 #[tactic(auto, unfolding(manual::specs::Values::digits_of))]
-fn digits_of(s: &[u8], n: usize, a: usize) -> End
+fn digits_of(s: &[u8], n: usize, a: usize) -> Result<(), Stop>
     requires { (a < length s.now) × (n ≤ a + 1) × (n ≤ 31) }
-    ensures { result ≡ end_of (digits_of (bytes_of s.now n a)) }
+    ensures { result ≡ way (digits_of (bytes_of s.now n a)) }
 {
     if has_bad(s, n, a) {
-        return End::BadDigit;
+        return Err(Stop::DigitRefused);
     }
-    End::Gone
+    Ok(())
 }
 
 // Both operands' places, then the digits of operand 2: operand 1 of ZAZ isn't read, so not tested.
-#[tactic(auto, unfolding(manual::specs::Programs::and_then), using(crate::proofs::Ways::reached))]
-fn zaz_way(s: &[u8], q: u8, a1: usize, a2: usize) -> End
-    ensures { result ≡ end_of (zaz_way s.now q a1 a2) }
+#[tactic(auto, unfolding(manual::specs::Programs::and_then, manual::specs::Formats::reach))]
+fn zaz_way(s: &[u8], q: u8, a1: usize, a2: usize) -> Result<(), Stop>
+    ensures { result ≡ way (zaz_way s.now q a1 a2) }
 {
-    let way = parts::reach_both(s.len(), l1(q), a1, l2(q), a2);
-    if parts::is_gone(way) {
-        return digits_of(s, l2(q), a2);
-    }
-    way
+    reach(s.len(), l1(q), a1)?;
+    reach(s.len(), l2(q), a2)?;
+    digits_of(s, l2(q), a2)
 }
 
 // The same, and then the digits of operand 1.
 #[tactic(auto, unfolding(manual::specs::Programs::and_then))]
-fn combine_way(s: &[u8], q: u8, a1: usize, a2: usize) -> End
-    ensures { result ≡ end_of (combine_way s.now q a1 a2) }
+fn combine_way(s: &[u8], q: u8, a1: usize, a2: usize) -> Result<(), Stop>
+    ensures { result ≡ way (combine_way s.now q a1 a2) }
 {
-    let way = zaz_way(s, q, a1, a2);
-    if parts::is_gone(way) {
-        return digits_of(s, l1(q), a1);
-    }
-    way
+    zaz_way(s, q, a1, a2)?;
+    digits_of(s, l1(q), a1)
 }
 
 // ---- digits
@@ -127,7 +122,7 @@ fn put_copy(s: &mut [u8], n: usize, a: usize, d: &[u8; 31])
 {
     let mut i = 0;
     while i < n {
-        parts::put_byte(s, a - i, d[30 - i]);
+        s[a - i] = d[30 - i];
         i += 1;
     }
 }
@@ -139,8 +134,7 @@ fn put_zones(s: &mut [u8], left: usize, k: usize)
 {
     let mut i = 0;
     while i < k {
-        let v = 240 + s[left + i] % 16;
-        parts::put_byte(s, left + i, v);
+        s[left + i] = 240 + s[left + i] % 16;
         i += 1;
     }
 }
@@ -194,7 +188,7 @@ fn taken(w: Take, b: u8) -> usize
     requires { digit b ≤ 9 }
     ensures { (result ≡ taken w (digit b)) × (result ≤ 9) }
 {
-    let v = parts::wide(b % 16);
+    let v = (b % 16) as usize;
     match w {
         Take::Plain => v,
         Take::Nines => 9 - v,
@@ -232,9 +226,9 @@ fn columns(s: &mut [u8], n: usize, a: usize, d: &[u8; 31], w: Take, start: usize
     let mut over = start;
     let mut j = 0;
     while j < n {
-        let t = parts::wide(s[a - j]) + taken(w, d[30 - j]) + over;
+        let t = s[a - j] as usize + taken(w, d[30 - j]) + over;
         over = carried(t);
-        parts::put_byte(s, a - j, (t - 10 * over) as u8);
+        s[a - j] = (t - 10 * over) as u8;
         j += 1;
     }
     over
@@ -253,9 +247,9 @@ fn run_on(s: &mut [u8], n: usize, a: usize, w: Take, start: usize) -> usize
         if over == still(w) {
             return over;
         }
-        let t = parts::wide(s[a - j]) + taken(w, 0) + over;
+        let t = s[a - j] as usize + taken(w, 0) + over;
         over = carried(t);
-        parts::put_byte(s, a - j, (t - 10 * over) as u8);
+        s[a - j] = (t - 10 * over) as u8;
         j += 1;
     }
     over
@@ -285,7 +279,7 @@ fn turned(s: &mut [u8], n: usize, a: usize)
     while j < n {
         let t = 240 + taken(Take::Nines, s[a - j]) + over;
         over = carried(t);
-        parts::put_byte(s, a - j, (t - 10 * over) as u8);
+        s[a - j] = (t - 10 * over) as u8;
         j += 1;
     }
 }
@@ -294,9 +288,8 @@ fn turned(s: &mut [u8], n: usize, a: usize)
 
 // The status beside its order: decimal overflow goes on, and is never turned off here.
 #[tactic(auto, unfolding(manual::specs::TheMachine::turn_on))]
-fn kept(over: bool, status: usize) -> usize
-    requires { status < 64 }
-    ensures { (result ≡ cond over (turn_on decimal_overflow status) status / 8 * 8) × (result < 64) }
+fn kept(over: bool, status: u8) -> u8
+    ensures { (result ≡ cond over (turn_on decimal_overflow status) status / 8 * 8) × (result ≤ 248) }
 {
     if over {
         return status / 16 * 16 + 8;
@@ -306,8 +299,8 @@ fn kept(over: bool, status: usize) -> usize
 
 // The sign, unless the size left is zero; answers the status.
 #[tactic(auto, unfolding(manual::specs::TheMachine::set_order))]
-fn finish(s: &mut [u8], a: usize, minus: bool, over: bool, clear: bool, status: usize) -> usize
-    requires { (a < length s.old) × (status < 64) }
+fn finish(s: &mut [u8], a: usize, minus: bool, over: bool, clear: bool, status: u8) -> u8
+    requires { a < length s.old }
     ensures s_after { s.new ≡ sign_put minus clear s.old a }
     ensures value { result ≡ finished minus over clear status }
 {
@@ -316,8 +309,7 @@ fn finish(s: &mut [u8], a: usize, minus: bool, over: bool, clear: bool, status: 
         return status + 1;
     }
     if minus {
-        let v = 208 + s[a] % 16;
-        parts::put_byte(s, a, v);
+        s[a] = 208 + s[a] % 16;
         return status + 2;
     }
     status + 4
@@ -325,18 +317,10 @@ fn finish(s: &mut [u8], a: usize, minus: bool, over: bool, clear: bool, status: 
 
 // Two sizes of one sign add.
 #[tactic(auto, using(crate::proofs::Fields::field_put))]
-fn sum(
-    s: &mut [u8],
-    n: usize,
-    a: usize,
-    k: usize,
-    d: &[u8; 31],
-    minus: bool,
-    status: usize,
-) -> usize
+fn sum(s: &mut [u8], n: usize, a: usize, k: usize, d: &[u8; 31], minus: bool, status: u8) -> u8
     requires operands { Operands s.old n a d.now }
     requires k_le_n { (k ≤ n) × (size (bytes_of d.now n 30) < 10 ^ k) }
-    requires n_nonzero { (0 < n) × (status < 64) }
+    requires n_nonzero { 0 < n }
     ensures { Left s.old n a status (signed_sum minus minus s.old n a d.now) result s.new }
 {
     let over = added(s, n, a, k, d, Take::Plain, 0);
@@ -353,11 +337,11 @@ fn difference(
     k: usize,
     d: &[u8; 31],
     minus: bool,
-    status: usize,
-) -> usize
+    status: u8,
+) -> u8
     requires operands { Operands s.old n a d.now }
     requires k_le_n { (k ≤ n) × (size (bytes_of d.now n 30) < 10 ^ k) }
-    requires n_nonzero { (0 < n) × (status < 64) }
+    requires n_nonzero { 0 < n }
     ensures { Left s.old n a status (signed_sum minus (not minus) s.old n a d.now) result s.new }
 {
     let over = added(s, n, a, k, d, Take::Nines, 1);
@@ -380,8 +364,8 @@ fn is_minus(b: u8) -> bool
 }
 
 // ZAZ puts operand 2's value in operand 1.
-fn put_second(s: &mut [u8], q: u8, a1: usize, a2: usize, status: usize) -> usize
-    requires { Ready s.old q a1 a2 status }
+fn put_second(s: &mut [u8], q: u8, a1: usize, a2: usize, status: u8) -> u8
+    requires { Ready s.old q a1 a2 }
     ensures { Left s.old (l1 q) a1 status (value (bytes_of s.old (l2 q) a2)) result s.new }
 {
     let d = copied(s, l2(q), a2);
@@ -393,8 +377,8 @@ fn put_second(s: &mut [u8], q: u8, a1: usize, a2: usize, status: usize) -> usize
 }
 
 // AZ adds operand 2, SZ takes it off.
-fn combined(s: &mut [u8], q: u8, a1: usize, a2: usize, less: bool, status: usize) -> usize
-    requires ready { Ready s.old q a1 a2 status }
+fn combined(s: &mut [u8], q: u8, a1: usize, a2: usize, less: bool, status: u8) -> u8
+    requires ready { Ready s.old q a1 a2 }
     requires a1_value { all_digits (bytes_of s.old (l1 q) a1) ≡ true }
     ensures { Left s.old (l1 q) a1 status (cond less ◌-ℤ◌ ◌+ℤ◌ (value (bytes_of s.old (l1 q) a1)) (value (bytes_of s.old (l2 q) a2))) result s.new }
 {
@@ -410,38 +394,35 @@ fn combined(s: &mut [u8], q: u8, a1: usize, a2: usize, less: bool, status: usize
 
 // ---- the leaves
 
-pub fn zaz(c: Core, s: &mut [u8], f: Fields) -> Went
-    requires { Within c }
-    ensures { LeafDoes c s.old f (zaz f) result s.new }
+pub fn zaz(m: &mut Machine, s: &mut [u8], f: Fields) -> Result<(), Stop>
+    ensures { Does (zaz f) m.old s.old result m.new s.new }
 {
-    let way = zaz_way(s, f.q, f.a1, f.a2);
-    if parts::is_gone(way) {
-        let status = put_second(s, f.q, f.a1, f.a2, c.status);
-        return parts::gone(c, f.next, status);
-    }
-    parts::stopped(c, way)
+    let a = f.a1 as usize;
+    let b = f.a2 as usize;
+    zaz_way(s, f.q, a, b)?;
+    m.status = put_second(s, f.q, a, b, m.status);
+    m.iar = f.next;
+    Ok(())
 }
 
-pub fn az(c: Core, s: &mut [u8], f: Fields) -> Went
-    requires { Within c }
-    ensures { LeafDoes c s.old f (az f) result s.new }
+pub fn az(m: &mut Machine, s: &mut [u8], f: Fields) -> Result<(), Stop>
+    ensures { Does (az f) m.old s.old result m.new s.new }
 {
-    let way = combine_way(s, f.q, f.a1, f.a2);
-    if parts::is_gone(way) {
-        let status = combined(s, f.q, f.a1, f.a2, false, c.status);
-        return parts::gone(c, f.next, status);
-    }
-    parts::stopped(c, way)
+    let a = f.a1 as usize;
+    let b = f.a2 as usize;
+    combine_way(s, f.q, a, b)?;
+    m.status = combined(s, f.q, a, b, false, m.status);
+    m.iar = f.next;
+    Ok(())
 }
 
-pub fn sz(c: Core, s: &mut [u8], f: Fields) -> Went
-    requires { Within c }
-    ensures { LeafDoes c s.old f (sz f) result s.new }
+pub fn sz(m: &mut Machine, s: &mut [u8], f: Fields) -> Result<(), Stop>
+    ensures { Does (sz f) m.old s.old result m.new s.new }
 {
-    let way = combine_way(s, f.q, f.a1, f.a2);
-    if parts::is_gone(way) {
-        let status = combined(s, f.q, f.a1, f.a2, true, c.status);
-        return parts::gone(c, f.next, status);
-    }
-    parts::stopped(c, way)
+    let a = f.a1 as usize;
+    let b = f.a2 as usize;
+    combine_way(s, f.q, a, b)?;
+    m.status = combined(s, f.q, a, b, true, m.status);
+    m.iar = f.next;
+    Ok(())
 }

@@ -1,18 +1,22 @@
 -- `edit::ed`: the digits that are copied are enough for the pattern, and with them it does what the rule says.
-use Rattle.std.proofs.Common.{◌≡◌, ◌+◌, ap, sym, ◌∙◌, length, take, arith}
+use Rattle.std.proofs.Common.{rules, ◌≡◌, ◌+◌, ap, ◌∙◌, length, take, arith}
 use Rattle.manual.proofs.FieldBytes.{bytes_length}
-use Rattle.parts.proofs.Reaching.{reached_in}
-use Rattle.edit.proofs.Rules.{ed_goes}
+use Rattle.edit.proofs.Rules.{reach_in, source_stops, digit_stops, ed_goes}
 use Rattle.edit.proofs.ed.Goals as goal
+
+pub returns-in_err-source_reach : goal.returns-in_err-source_reach
+returns-in_err-source_reach c = search (rules, source_stops)
+
+pub returns-in_err-digits_of : goal.returns-in_err-digits_of
+returns-in_err-digits_of c = search (rules, digit_stops)
 
 pub put_edited-requires : goal.put_edited-requires
 put_edited-requires c =
-    let h = reached_in (length c.args.s.now) (c.args.f.q + 1) c.args.f.a1 _ c.reach-end.ensures (cc) in
-    let copied : length (take c.count_20-count.result c.taken-copy.result) ≡ c.count_20-count.result = ap length c.taken-copy.ensures ∙ bytes_length _ _ _ in
+    let h = reach_in (length c.args.s.now) (c.args.f.q + 1) c.args.f.a1 c.in_ok-reach.ensures in
+    let copied : length (take c.count_20-count.result c.take.new.d) ≡ c.count_20-count.result = ap length c.take.ensures ∙ bytes_length _ _ _ in
     (h.0, h.1, omega arith)
 
-pub returns-then-all_digits : goal.returns-then-all_digits
-returns-then-all_digits c =
-    rw (c.gone.ensures, c.set_order.ensures, c.value_order.ensures.0)
-    (sym
-    (ed_goes _ _ _ _ c.reach-end.ensures (cc) _ c.count_20-count.ensures.0 _ c.source_reach-source.ensures (cc) _ c.taken-copy.ensures _ (cc) c.put_edited.ensures))
+pub returns : goal.returns
+returns c =
+    rw (c.set_order-m.ensures, c.value_order.ensures.0)
+    (ed_goes c.args.m.now c.args.s.now c.args.f c.in_ok-reach.ensures _ c.count_20-count.ensures.0 c.in_ok-source_reach.ensures _ c.take.ensures c.put_edited.new.s c.in_ok-digits_of.ensures c.put_edited.ensures)

@@ -1,5 +1,5 @@
 -- `edit::put_edited`: a 20 takes a digit, another byte none, and at the end nothing is left.
-use Rattle.std.proofs.Common.{refl, arith, ◌∙◌}
+use Rattle.std.proofs.Common.{refl, arith}
 use Rattle.edit.proofs.Editing.{puts, passes, ends}
 use Rattle.edit.proofs.put_edited.Goals as goal
 use Rattle.edit.proofs.put_edited.Goals.{then-s-a-eq32, else-s-a-eq32}
@@ -11,7 +11,7 @@ loop-i-preserved c =
       within = omega arith;
       edited = elim c.if-s-a-eq32.branch [
         | then-s-a-eq32 w ↦
-            puts _ _ _ _ l.s c.if-s-a-eq32.s l.k c.if-s-a-eq32.k l.i (omega arith) (omega arith) w.if-s-a-eq32.true (w.s-is ∙ w.put_byte.ensures) w.k-is l.invariant.edited
+            puts _ _ _ _ l.s c.if-s-a-eq32.s l.k c.if-s-a-eq32.k l.i (omega arith) (omega arith) w.if-s-a-eq32.true w.s-is w.k-is l.invariant.edited
         | else-s-a-eq32 w ↦
             passes _ _ _ _ l.s c.if-s-a-eq32.s l.k c.if-s-a-eq32.k l.i (omega arith) w.if-s-a-eq32.false w.s-is w.k-is l.invariant.edited
       ];

@@ -1,5 +1,5 @@
 -- `edit::scan_right`: one more byte is passed.
-use Rattle.std.proofs.Common.{arith}
+use Rattle.std.proofs.Common.{arith, refl}
 use Rattle.edit.proofs.Scanning.{goes_on}
 use Rattle.edit.proofs.scan_right.Goals as goal
 
@@ -8,5 +8,5 @@ loop-at-preserved c =
     let l = c.loop-at in
     record {
       within = omega arith;
-      scanned = goes_on _ _ _ _ l.s _ l.at (omega arith) (cc) c.put_byte.ensures l.invariant.scanned;
+      scanned = goes_on _ _ _ _ l.s _ l.at (omega arith) (cc) refl l.invariant.scanned;
     }

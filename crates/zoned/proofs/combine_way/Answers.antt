@@ -5,6 +5,5 @@ use Rattle.zoned.proofs.combine_way.Goals as goal
 
 pub digits_of-requires : goal.digits_of-requires
 digits_of-requires c =
-    let a = c.args in
-    let r = zaz_ready a.s.now a.q a.a1 a.a2 0 _ _ (omega arith) c.zaz_way-way.ensures c.is_gone.ensures c.if-is_gone.true in
+    let r = zaz_ready c.args.s.now c.args.q c.args.a1 c.args.a2 c.in_ok-zaz_way.ensures in
     omega (arith, r, c.l1.ensures)

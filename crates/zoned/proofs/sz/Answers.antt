@@ -1,16 +1,16 @@
 -- What stands in the way is tested first, and the rest subtracts.
-use Rattle.std.proofs.Common.{rules}
+use Rattle.std.proofs.Common.{rules, ◌-ℤ◌}
 use Rattle.zoned.proofs.Ways.{combine_ready, combine_digits, combine_stops, combine_goes}
 use Rattle.zoned.proofs.sz.Goals as goal
 
-pub combined-status-requires-clause-ready : goal.combined-status-requires-clause-ready
-combined-status-requires-clause-ready c = search (rules, combine_ready)
+pub returns-in_err-combine_way : goal.returns-in_err-combine_way
+returns-in_err-combine_way c = search (rules, combine_stops)
 
-pub combined-status-requires-clause-a1_value : goal.combined-status-requires-clause-a1_value
-combined-status-requires-clause-a1_value c = search (rules, combine_digits)
+pub combined-m-requires-clause-ready : goal.combined-m-requires-clause-ready
+combined-m-requires-clause-ready c = search (rules, combine_ready)
 
-pub returns-then-is_gone : goal.returns-then-is_gone
-returns-then-is_gone c = search (rules, combine_goes)
+pub combined-m-requires-clause-a1_value : goal.combined-m-requires-clause-a1_value
+combined-m-requires-clause-a1_value c = search (rules, combine_digits)
 
 pub returns : goal.returns
-returns c = search (rules, combine_stops)
+returns c = combine_goes c.args.m.now c.args.s.now c.args.f ◌-ℤ◌ c.in_ok-combine_way.ensures c.combined-m.result c.combined-m.new.s c.combined-m.ensures

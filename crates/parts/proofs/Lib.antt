@@ -1,4 +1,0 @@
-pub mod Reaching
-pub mod Statuses
-pub mod Working
-pub mod Computed

@@ -1,0 +1,23 @@
+-- What a leaf does to the machine and storage that it is lent, against the rules of the book.
+use Rattle.std.specs.Prelude.{◌≡◌, List, ℕ, Result, Ok, Err}
+use Rattle.manual.specs.declared.Machine.{Machine}
+use Rattle.manual.specs.declared.Stop.{Stop}
+use Rattle.manual.specs.declared.Answer.{Answer}
+use Rattle.manual.specs.declared.Answer.TheVariants.{Executed, Stopped}
+use Rattle.manual.specs.declared.Way.{Way}
+use Rattle.manual.specs.declared.Way.TheVariants.{Clear, Barred}
+use Rattle.manual.specs.Programs.{Rule}
+use Rattle.manual.specs.Step.{ended, did}
+
+-- what stands in the way, as a result
+abbrev pub way : Way → Result (Unit {0}) Stop
+way Clear = Ok tt
+way (Barred x) = Err x
+
+abbrev pub answer : Result (Unit {0}) Stop → Answer
+answer (Ok x) = Executed
+answer (Err x) = Stopped x
+
+-- the result, the machine and the storage afterwards are what the rule makes of those before
+abbrev pub Does : Rule → Machine → List ℕ → Result (Unit {0}) Stop → Machine → List ℕ → Type 0
+Does rule m s r n t = ended n (answer r) t ≡ did m s rule
