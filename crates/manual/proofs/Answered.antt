@@ -1,5 +1,6 @@
 -- A step stops exactly where the order of the stops says, with that stop, and executes where nothing stands in its way.
 -- What carries it: how the stop goes through each form of a program, then one line an operation.
+use Rattle.std.specs.Prelude.{Ok, Err}
 use mathlib.Core.Path.{◌≡◌, refl}
 use mathlib.Core.Bool.{Bool, true, false, cond}
 use mathlib.Core.List.{List}
@@ -11,13 +12,9 @@ use Rattle.manual.specs.declared.Answer.TheVariants.{Executed, Stopped}
 use Rattle.manual.specs.declared.Operation.{Operation}
 use Rattle.manual.specs.declared.Operation.TheVariants.{Zaz, Az, Sz, Mvx, Ed, Itc, Mvc, Clc, Alc, Slc, St, L, A, S, Tbn, Tbf, Sbn, Sbf, Mvi, Cli, Sli, Bc, Jc, La, Svc}
 use Rattle.manual.specs.declared.Fields.{Fields}
-use Rattle.manual.specs.declared.Way.{Way}
-use Rattle.manual.specs.declared.Way.TheVariants.{Clear, Barred}
-use Rattle.manual.specs.declared.Decoded.{Decoded}
-use Rattle.manual.specs.declared.Decoded.TheVariants.{Found, NotFound}
 use Rattle.manual.specs.Places.{Place, State, state, look, put}
-use Rattle.manual.specs.Programs.{Prog, ret, rd, wr, val, fin, ◌>>=◌, Out, stop, go, Rule, unless, and_then}
-use Rattle.manual.specs.Decode.{decode_of}
+use Rattle.manual.specs.Programs.{Prog, ret, rd, wr, val, fin, ◌>>=◌, Out, stop, go, Rule, unless, and_then, Way}
+use Rattle.manual.specs.Decode.{decode_of, Decoded}
 use Rattle.manual.specs.Zoned.{put_result, zaz, combine}
 use Rattle.manual.specs.Edit.{mvx, ed, itc}
 use Rattle.manual.specs.Logical.{mvc, clc, alc, slc}
@@ -31,13 +28,13 @@ use Rattle.manual.proofs.Fetched.{did_step, did_stop, did_perform}
 
 -- the answer where w stands in the way
 abbrev pub answer_of : Way → Answer
-answer_of Clear = Executed
-answer_of (Barred x) = Stopped x
+answer_of (Ok tt) = Executed
+answer_of (Err x) = Stopped x
 
 -- what a rule ended on
 unfoldable pub way_of : Out → Way
-way_of (stop x) = Barred x
-way_of (go i x) = Clear
+way_of (stop x) = Err x
+way_of (go i x) = (Ok tt)
 
 -- ---- the forms of a program
 
@@ -45,11 +42,11 @@ way_of (go i x) = Clear
 unfoldable pub meets : Prog Out → State → Way
 meets p σ = way_of (val p σ)
 
-a_stop : (x : Stop) (σ : State) → meets (ret (stop x)) σ ≡ Barred x
+a_stop : (x : Stop) (σ : State) → meets (ret (stop x)) σ ≡ Err x
 unfolding meets way_of val
 a_stop x σ = refl
 
-a_go : (i x : ℕ) (σ : State) → meets (ret (go i x)) σ ≡ Clear
+a_go : (i x : ℕ) (σ : State) → meets (ret (go i x)) σ ≡ Ok tt
 unfolding meets way_of val
 a_go i x σ = refl
 
@@ -67,26 +64,26 @@ a_cond false p q σ = refl
 
 a_unless : (w : Way) (p : Prog Out) (σ : State) → meets (unless w p) σ ≡ and_then w (meets p σ)
 unfolding unless and_then
-a_unless Clear p σ = refl
-a_unless (Barred x) p σ = a_stop x σ
+a_unless (Ok tt) p σ = refl
+a_unless (Err x) p σ = a_stop x σ
 
 a_bind : {X : Type 0} (p : Prog X) (f : X → Prog Out) (σ : State) → meets (p >>= f) σ ≡ meets (f (val p σ)) (fin p σ)
 unfolding meets
 a_bind p f σ = rw (val_bind p f σ)
 
-then_clear : (w : Way) → and_then w Clear ≡ w
+then_clear : (w : Way) → and_then w (Ok tt) ≡ w
 unfolding and_then
-then_clear Clear = refl
-then_clear (Barred x) = refl
+then_clear (Ok tt) = refl
+then_clear (Err x) = refl
 
-clear_then : (w : Way) → and_then Clear w ≡ w
+clear_then : (w : Way) → and_then (Ok tt) w ≡ w
 unfolding and_then
 clear_then w = refl
 
 then_assoc : (u v w : Way) → and_then (and_then u v) w ≡ and_then u (and_then v w)
 unfolding and_then
-then_assoc Clear v w = refl
-then_assoc (Barred x) v w = refl
+then_assoc (Ok tt) v w = refl
+then_assoc (Err x) v w = refl
 
 way_same : (b : Bool) (w : Way) → cond b w w ≡ w
 way_same true w = refl
@@ -135,8 +132,8 @@ module _ (m : Machine) (s : List ℕ) where
   answer_did rule = answer_settled _ _
 
   answer_in : (d : Decoded) → decode_of s m.iar ≡ d → (inner_step m s).gave.answer ≡ answer_of (barred_in m s d)
-  answer_in (NotFound x) e = rw (did_step, e, did_stop)
-  answer_in (Found i) e = rw (did_step, e, did_perform, answer_did, a_exec i.operation (fields_of m i))
+  answer_in (Err x) e = rw (did_step, e, did_stop)
+  answer_in (Ok i) e = rw (did_step, e, did_perform, answer_did, a_exec i.operation (fields_of m i))
 
   -- a step's answer, by the order of the stops
   pub step_answer : (inner_step m s).gave.answer ≡ answer_of (barred_at m s)

@@ -1,4 +1,5 @@
 -- The limits of the numbers that a machine, a storage and an instruction hold, and programs that keep them. What carries it: one induction on such a program.
+use Rattle.std.specs.Prelude.{Ok, Err}
 use mathlib.Core.Path.{◌≡◌, ◌∙◌}
 use mathlib.Core.Bool.{Bool, true, false, cond, ◌&&◌}
 use mathlib.Core.List.{List}
@@ -10,21 +11,18 @@ use Rattle.manual.specs.declared.Machine.{Machine}
 use Rattle.manual.specs.declared.Register.TheVariants.{Arr, Xr1, Xr2, Work}
 use Rattle.manual.specs.declared.Stop.{Stop}
 use Rattle.manual.specs.declared.Stop.TheVariants.{OperandOutside, DigitRefused}
-use Rattle.manual.specs.declared.Way.{Way}
-use Rattle.manual.specs.declared.Way.TheVariants.{Clear, Barred}
 use Rattle.manual.specs.declared.Answer.{Answer}
 use Rattle.manual.specs.declared.Instruction.{Instruction}
 use Rattle.manual.specs.declared.Fields.{Fields}
-use Rattle.manual.specs.declared.Decoded.{Decoded}
-use Rattle.manual.specs.declared.Decoded.TheVariants.{Found, NotFound}
 use Rattle.manual.specs.Numbers.{stop_told, answer_told}
 use Rattle.manual.specs.Places.{Place, mem, reg, State, look, put}
-use Rattle.manual.specs.Programs.{Prog, ret, rd, wr, val, fin, ◌>>=◌, Out, stop, go, unless, and_then}
+use Rattle.manual.specs.Programs.{Prog, ret, rd, wr, val, fin, ◌>>=◌, Out, stop, go, unless, and_then, Way}
 use Rattle.manual.specs.Formats.{reach, reach_right}
 use Rattle.manual.specs.Values.{digits_of, all_digits}
 use Rattle.manual.specs.Edit.{source_reach}
 use Rattle.manual.proofs.Status.{pick}
 use Rattle.manual.proofs.FieldBytes.{set_below}
+use Rattle.manual.specs.Decode.{Decoded}
 
 -- registers below 65,536, the work registers four, the status below 64, bytes below 256
 pub record Bounded (m : Machine) (s : List ℕ) : Type 0 where
@@ -73,8 +71,8 @@ pub record BoundedInstruction (i : Instruction) : Type 0 where
 
 -- the numbers of what decoding answers
 abbrev pub BoundedDecoded : Decoded → Type 0
-BoundedDecoded (Found i) = BoundedInstruction i
-BoundedDecoded (NotFound x) = BoundedStop x
+BoundedDecoded (Ok i) = BoundedInstruction i
+BoundedDecoded (Err x) = BoundedStop x
 
 -- from numbers below their limits, the program writes numbers below their limits and gives what P says
 pub data Keeps {A : Type 0} (P : A → Type 0) : Prog A → Type 0 where
@@ -134,8 +132,8 @@ module _ {A : Type 0} {P : A → Type 0} where
 -- ---- what stands in the way carries no byte
 
 abbrev pub BoundedWay : Way → Type 0
-BoundedWay Clear = Unit
-BoundedWay (Barred x) = BoundedStop x
+BoundedWay (Ok tt) = Unit
+BoundedWay (Err x) = BoundedStop x
 
 plain_outside : BoundedStop OperandOutside
 plain_outside = omega arith
@@ -145,26 +143,26 @@ plain_digit = omega arith
 
 pub way_reach : (size n a : ℕ) → BoundedWay (reach size n a)
 unfolding reach
-way_reach size n a = pick BoundedWay (ltb a size && leb n (a + 1)) Clear (Barred OperandOutside) tt plain_outside
+way_reach size n a = pick BoundedWay (ltb a size && leb n (a + 1)) (Ok tt) (Err OperandOutside) tt plain_outside
 
 pub way_reach_right : (size n a : ℕ) → BoundedWay (reach_right size n a)
 unfolding reach_right
-way_reach_right size n a = pick BoundedWay (leb (a + n) size) Clear (Barred OperandOutside) tt plain_outside
+way_reach_right size n a = pick BoundedWay (leb (a + n) size) (Ok tt) (Err OperandOutside) tt plain_outside
 
 pub way_source : (size n a : ℕ) → BoundedWay (source_reach size n a)
 unfolding source_reach
-way_source size n a = pick BoundedWay (eqb n 0) Clear (reach size n a) tt (way_reach size n a)
+way_source size n a = pick BoundedWay (eqb n 0) (Ok tt) (reach size n a) tt (way_reach size n a)
 
 pub way_digits : (bs : List ℕ) → BoundedWay (digits_of bs)
 unfolding digits_of
-way_digits bs = pick BoundedWay (all_digits bs) Clear (Barred DigitRefused) tt plain_digit
+way_digits bs = pick BoundedWay (all_digits bs) (Ok tt) (Err DigitRefused) tt plain_digit
 
 pub way_both : (v w : Way) → BoundedWay v → BoundedWay w → BoundedWay (and_then v w)
 unfolding and_then
-way_both Clear w h k = k
-way_both (Barred x) w h k = h
+way_both (Ok tt) w h k = k
+way_both (Err x) w h k = h
 
 pub keeps_unless : (w : Way) {p : Prog Out} → BoundedWay w → Keeps BoundedOut p → Keeps BoundedOut (unless w p)
 unfolding unless
-keeps_unless Clear h k = k
-keeps_unless (Barred x) h k = giving h
+keeps_unless (Ok tt) h k = k
+keeps_unless (Err x) h k = giving h

@@ -1,11 +1,11 @@
 -- Small decks, computed: each number of the reader occurs, and each of the writer; and a deck written and read again.
 -- What carries it: the definitions compute.
+use Rattle.std.specs.Prelude.{Ok}
 use Prim.Native.Nat.{ℕ}
 use mathlib.Core.Path.{◌≡◌, refl}
 use mathlib.Core.List.{List, [], ◌∷◌, ◌++◌}
 use lib.ListN.{replicate, length}
 use Rattle.manual.specs.declared.Machine.{Machine}
-use Rattle.manual.specs.declared.ReadAnswer.TheVariants.{DeckRead}
 use Rattle.manual.specs.Numbers.{read_number, write_told}
 use Rattle.manual.specs.TheMachine.{size_allowed, status_allowed}
 use Rattle.manual.specs.Deck.{machine_record, machine_in, all_zero, page_records, deck_of, first_answer, page_answer, later_answer, deck_answer, over, paged, storage_in, read_of, write_of}
@@ -56,7 +56,7 @@ pub record DeckCases : Type 0 where
   pub written_just : written 0x00 (replicate 256 0) 20 ≡ 0
   -- 20 bytes, and 258 for the one page that isn't all zero
   pub length_278 : length (deck_of example storage) ≡ 278
-  pub read_again : read_of (deck_of example storage) (replicate 512 0x77) ≡ record { gave = record { machine = example; answer = DeckRead }; storage = storage }
+  pub read_again : read_of (deck_of example storage) (replicate 512 0x77) ≡ record { gave = record { machine = example; answer = (Ok tt) }; storage = storage }
 
 pub deck_cases : DeckCases
 unfolding deck_answer first_answer later_answer page_answer all_zero status_allowed size_allowed write_of deck_of machine_record page_records over read_of machine_in storage_in paged

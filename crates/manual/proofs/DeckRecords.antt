@@ -1,4 +1,5 @@
 -- What is known of a record that was not refused, and that such a record is not refused. What carries it: the tests, one by one.
+use Rattle.std.specs.Prelude.{Ok, Err}
 use Prim.Native.Nat.{ℕ, suc, ◌+◌, ◌≤◌, ◌<◌, ◌*◌, ◌/◌}
 use mathlib.Core.Bool.{Bool, true, false, cond, not}
 use mathlib.Core.List.{List}
@@ -10,11 +11,10 @@ use lib.Dec.{eqb, leb, ltb}
 use lib.ListN.{length, get_or, take, drop}
 use Rattle.manual.specs.declared.DeckFault.{DeckFault}
 use Rattle.manual.specs.declared.DeckFault.TheVariants.{BytesAfterEnd}
-use Rattle.manual.specs.declared.ReadAnswer.{ReadAnswer}
-use Rattle.manual.specs.declared.ReadAnswer.TheVariants.{DeckRead, DeckRefused}
 use Rattle.manual.specs.TheMachine.{status_allowed}
 use Rattle.manual.specs.Deck.{all_zero, kind_known, record_length, provided, record_answer, first_answer, page_answer, later_answer, deck_answer}
 use Rattle.manual.proofs.Running.{and_both}
+use Rattle.manual.specs.Numbers.{ReadAnswer}
 
 -- ---- tests
 
@@ -22,11 +22,11 @@ pub either : (b : Bool) → (b ≡ true) ⊎ (b ≡ false)
 either true = inl refl
 either false = inr refl
 
-pub refused_read : {x : DeckFault} → DeckRefused x ≡ DeckRead → ⊥
+pub refused_read : {x : DeckFault} → ◌≡◌ {A = ReadAnswer} (Err x) (Ok tt) → ⊥
 refused_read e = let z : ◌≡◌ {A = ℕ} 0 1 = cc in omega arith
 
 -- a test that did not refuse held
-passed : (b : Bool) (x : DeckFault) (more : ReadAnswer) → provided b x more ≡ DeckRead → (b ≡ true) × (more ≡ DeckRead)
+passed : (b : Bool) (x : DeckFault) (more : ReadAnswer) → provided b x more ≡ Ok tt → (b ≡ true) × (more ≡ Ok tt)
 passed true x more e = (refl, e)
 passed false x more e = absurd (refused_read e)
 
@@ -39,7 +39,7 @@ pub record Asked (inOrder : Bool) (d : List ℕ) : Type 0 where
   pub order : inOrder ≡ true
   pub whole : record_length (get_or d 0 0) ≤ length d
 
-pub asked : (b : Bool) (d : List ℕ) (more : ReadAnswer) → record_answer b d more ≡ DeckRead → Asked b d × (more ≡ DeckRead)
+pub asked : (b : Bool) (d : List ℕ) (more : ReadAnswer) → record_answer b d more ≡ Ok tt → Asked b d × (more ≡ Ok tt)
 asked b d more e =
     let kind = get_or d 0 0 in
     let e1 = passed (ltb 0 (length d)) _ _ e in
@@ -63,7 +63,7 @@ pub record FirstAt (d : List ℕ) (size : ℕ) : Type 0 where
   pub size_is : (get_or d 1 0 + 1) * 256 ≡ size
 
 module _ (d : List ℕ) (size : ℕ) (more : ReadAnswer) where
-  pub first_at : first_answer d size more ≡ DeckRead → FirstAt d size × (more ≡ DeckRead)
+  pub first_at : first_answer d size more ≡ Ok tt → FirstAt d size × (more ≡ Ok tt)
   unfolding first_answer status_allowed
   first_at e =
       let a = asked (eqb (get_or d 0 0) 0x01) d _ e in
@@ -105,7 +105,7 @@ pub record EndAt (d : List ℕ) : Type 0 where
 unfoldable pub later_record : List ℕ → ℕ → ℕ → ReadAnswer → ReadAnswer
 later_record d pages next more =
     record_answer (not (eqb (get_or d 0 0) 0x01)) d
-    (cond (eqb (get_or d 0 0) 0x02) (page_answer d pages next more) (provided (eqb (length d) 1) BytesAfterEnd DeckRead))
+    (cond (eqb (get_or d 0 0) 0x02) (page_answer d pages next more) (provided (eqb (length d) 1) BytesAfterEnd (Ok tt)))
 
 pub later_is : (n : ℕ) (d : List ℕ) (pages next : ℕ)
     → later_answer (suc n) d pages next ≡ later_record d pages next (later_answer n (drop 258 d) pages (get_or d 1 0 + 1))
@@ -113,7 +113,7 @@ unfolding later_answer later_record
 later_is n d pages next = refl
 
 module _ (d : List ℕ) (pages next : ℕ) (more : ReadAnswer) where
-  page_at_lem : page_answer d pages next more ≡ DeckRead → get_or d 0 0 ≡ 2 → 258 ≤ length d → PageAt d pages next × (more ≡ DeckRead)
+  page_at_lem : page_answer d pages next more ≡ Ok tt → get_or d 0 0 ≡ 2 → 258 ≤ length d → PageAt d pages next × (more ≡ Ok tt)
   unfolding page_answer
   page_at_lem e k w =
       let e1 = passed (ltb (get_or d 1 0) pages) _ _ e in
@@ -130,7 +130,7 @@ module _ (d : List ℕ) (pages next : ℕ) (more : ReadAnswer) where
       )
 
   -- a record that is not refused is a page, and more was not refused, or it is the end
-  pub later_at : later_record d pages next more ≡ DeckRead → (PageAt d pages next × (more ≡ DeckRead)) ⊎ EndAt d
+  pub later_at : later_record d pages next more ≡ Ok tt → (PageAt d pages next × (more ≡ Ok tt)) ⊎ EndAt d
   unfolding later_record
   later_at e =
       let a = asked (not (eqb (get_or d 0 0) 0x01)) d _ e in
@@ -150,7 +150,7 @@ module _ (d : List ℕ) (pages next : ℕ) (more : ReadAnswer) where
       let a : Asked (not (eqb (get_or d 0 0) 0x01)) d = record { some = omega arith; least = omega arith; most = omega arith; order = rw k; whole = rw k w } in
       asked_good _ d _ a ∙ (rw (k, lt-ltb _ _ p.below, le-leb _ _ p.rising, p.used))
 
-  pub end_good : EndAt d → later_record d pages next more ≡ DeckRead
+  pub end_good : EndAt d → later_record d pages next more ≡ Ok tt
   unfolding later_record
   end_good p =
       let k = p.kind in
@@ -162,51 +162,51 @@ module _ (d : List ℕ) (pages next : ℕ) (more : ReadAnswer) where
 
 -- what one record answers, and then more where it is not refused
 abbrev pub and_more : ReadAnswer → ReadAnswer → ReadAnswer
-and_more DeckRead more = more
-and_more (DeckRefused x) more = DeckRefused x
+and_more (Ok tt) more = more
+and_more (Err x) more = Err x
 
 more_provided : (b : Bool) (x : DeckFault) (y more : ReadAnswer) → and_more (provided b x y) more ≡ provided b x (and_more y more)
 more_provided true x y more = refl
 more_provided false x y more = refl
 
-pub asked_more : (b : Bool) (d : List ℕ) (more : ReadAnswer) → record_answer b d more ≡ and_more (record_answer b d DeckRead) more
+pub asked_more : (b : Bool) (d : List ℕ) (more : ReadAnswer) → record_answer b d more ≡ and_more (record_answer b d (Ok tt)) more
 asked_more b d more = sym (simp more_provided)
 
-pub first_more : (d : List ℕ) (size : ℕ) (more : ReadAnswer) → first_answer d size more ≡ and_more (first_answer d size DeckRead) more
+pub first_more : (d : List ℕ) (size : ℕ) (more : ReadAnswer) → first_answer d size more ≡ and_more (first_answer d size (Ok tt)) more
 unfolding first_answer
 first_more d size more = sym (simp more_provided)
 
-more_page : (d : List ℕ) (pages next : ℕ) (more : ReadAnswer) → page_answer d pages next more ≡ and_more (page_answer d pages next DeckRead) more
+more_page : (d : List ℕ) (pages next : ℕ) (more : ReadAnswer) → page_answer d pages next more ≡ and_more (page_answer d pages next (Ok tt)) more
 unfolding page_answer
 more_page d pages next more = sym (simp more_provided)
 
 module _ (d : List ℕ) (pages next : ℕ) (more : ReadAnswer) where
   more_kind : (b : Bool)
-      → and_more (cond b (page_answer d pages next DeckRead) (provided (eqb (length d) 1) BytesAfterEnd DeckRead)) (cond b more DeckRead)
-      ≡ cond b (page_answer d pages next more) (provided (eqb (length d) 1) BytesAfterEnd DeckRead)
+      → and_more (cond b (page_answer d pages next (Ok tt)) (provided (eqb (length d) 1) BytesAfterEnd (Ok tt))) (cond b more (Ok tt))
+      ≡ cond b (page_answer d pages next more) (provided (eqb (length d) 1) BytesAfterEnd (Ok tt))
   more_kind true = sym (more_page d pages next more)
-  more_kind false = more_provided (eqb (length d) 1) BytesAfterEnd DeckRead DeckRead
+  more_kind false = more_provided (eqb (length d) 1) BytesAfterEnd (Ok tt) (Ok tt)
 
-  pub later_more : later_record d pages next more ≡ and_more (later_record d pages next DeckRead) (cond (eqb (get_or d 0 0) 0x02) more DeckRead)
+  pub later_more : later_record d pages next more ≡ and_more (later_record d pages next (Ok tt)) (cond (eqb (get_or d 0 0) 0x02) more (Ok tt))
   unfolding later_record
   later_more = sym (simp (more_provided, more_kind (eqb (get_or d 0 0) 0x02)))
 
 -- ---- an accepted deck: its first record, and the rest
 
-pub accepted : (d : List ℕ) (size : ℕ) → deck_answer d size ≡ DeckRead → FirstAt d size × (later_answer (length d) (drop 19 d) (size / 256) 0 ≡ DeckRead)
+pub accepted : (d : List ℕ) (size : ℕ) → deck_answer d size ≡ Ok tt → FirstAt d size × (later_answer (length d) (drop 19 d) (size / 256) 0 ≡ Ok tt)
 unfolding deck_answer
 accepted d size e = first_at d size _ e
 
 -- a page, and at most n accepted records after it
 pub record PageThen (n : ℕ) (d : List ℕ) (pages next : ℕ) : Type 0 where
   pub page : PageAt d pages next
-  pub more : later_answer n (drop 258 d) pages (get_or d 1 0 + 1) ≡ DeckRead
+  pub more : later_answer n (drop 258 d) pages (get_or d 1 0 + 1) ≡ Ok tt
 
-pub later_cases : (n : ℕ) (d : List ℕ) (pages next : ℕ) → later_answer (suc n) d pages next ≡ DeckRead → PageThen n d pages next ⊎ EndAt d
+pub later_cases : (n : ℕ) (d : List ℕ) (pages next : ℕ) → later_answer (suc n) d pages next ≡ Ok tt → PageThen n d pages next ⊎ EndAt d
 later_cases n d pages next e =
     ⊎_elim (λ w. inl (record { page = w.0; more = w.1 })) inr (later_at d pages next _ (rw (later_is n d pages next) at e))
 
 -- none is left to be accepted
-pub not_none : (d : List ℕ) (pages next : ℕ) → later_answer 0 d pages next ≡ DeckRead → ⊥
+pub not_none : (d : List ℕ) (pages next : ℕ) → later_answer 0 d pages next ≡ Ok tt → ⊥
 unfolding later_answer
 not_none d pages next e = refused_read e

@@ -1,5 +1,6 @@
 -- A machine written as a deck and read again is that machine; an accepted deck read and written again is that deck; and how long a deck is.
 -- What carries it: one induction on the pages of a storage, and one on the records of an accepted deck.
+use Rattle.std.specs.Prelude.{Ok, Err}
 use Prim.Native.Nat.{ℕ, zero, suc, ◌+◌, ◌≤◌, ◌<◌, ◌-◌, ◌*◌, ◌/◌, ◌%◌, pred}
 use mathlib.Core.Bool.{Bool, true, false, cond}
 use mathlib.Core.List.{List, [], ◌∷◌, ◌++◌, append_assoc}
@@ -13,9 +14,7 @@ use lib.ListN.{length, get_or, take, drop, length-append, length-drop, take-appe
 use lib.Seq.{length-take-le, take_at, drop_at, drop-cons, take-append_seam, drop-append_seam, get_or-drop}
 use Rattle.manual.specs.declared.Machine.{Machine}
 use Rattle.manual.specs.declared.DeckFault.{DeckFault}
-use Rattle.manual.specs.declared.ReadAnswer.TheVariants.{DeckRead, DeckRefused}
 use Rattle.manual.specs.declared.WriteFault.{WriteFault}
-use Rattle.manual.specs.declared.WriteAnswer.TheVariants.{DeckWritten, NotWritten}
 use Rattle.manual.specs.TheMachine.{size_allowed, status_allowed}
 use Rattle.manual.specs.Deck.{machine_record, machine_in, all_zero, page_records, deck_of, later_answer, deck_answer, over, paged, storage_in, read_outcome, zeroed, read_of, WriteOutcome, write_outcome, write_of}
 use Rattle.manual.proofs.Running.{and_both}
@@ -84,7 +83,7 @@ later_page f k pages next page more l b h o =
     ∙ ap (λ (d : List ℕ). later_answer f d pages (k + 1)) (drop_at page more 256 l)
 
 later_written : (n f k next pages : ℕ) (s : List ℕ) → length s ≡ n * 256 → k + n ≡ pages → next ≤ k → length (page_records n k s) ≤ f
-    → later_answer (suc f) (page_records n k s ++ 0x03 ∷ []) pages next ≡ DeckRead
+    → later_answer (suc f) (page_records n k s ++ 0x03 ∷ []) pages next ≡ Ok tt
 later_written zero f k next pages s l e o h =
     unfold page_records in later_is f (0x03 ∷ []) pages next ∙ end_good (0x03 ∷ []) pages next _ (record { kind = refl; last = refl })
 later_written (suc n) f k next pages s l e o h =
@@ -172,7 +171,7 @@ module _ (m : Machine) (s : List ℕ) (allowed : size_allowed (length s) ≡ tru
         record { kind = refl; whole = omega (arith, length_parts m s); status = ltb-true m.status 64 status; size_is = omega arith }
 
     -- the deck of what the writer takes is always accepted by the reader
-    pub written_accepted : deck_answer (deck_of m s) (length s) ≡ DeckRead
+    pub written_accepted : deck_answer (deck_of m s) (length s) ≡ Ok tt
     unfolding deck_answer
     written_accepted =
         let p = pages in
@@ -181,13 +180,13 @@ module _ (m : Machine) (s : List ℕ) (allowed : size_allowed (length s) ≡ tru
         ∙ rw (z, behind_first m s) (later_written (length s / 256) _ 0 0 _ s p.0 (zero-add _) (omega arith) (omega arith))
 
     -- read again it is that machine and that storage, whatever the lent one held; registers of any size, if four of them are work registers
-    pub deck_reads : length m.wr ≡ 4 → (t : List ℕ) → length t ≡ length s → read_of (deck_of m s) t ≡ read_outcome (record { machine = m; answer = DeckRead }) s
+    pub deck_reads : length m.wr ≡ 4 → (t : List ℕ) → length t ≡ length s → read_of (deck_of m s) t ≡ read_outcome (record { machine = m; answer = (Ok tt) }) s
     unfolding read_of
     deck_reads four t l = simp (l, written_accepted, machine_written m s four, storage_written)
 
 -- a machine within its bounds written as a deck and read again is that machine
 pub written_reads : (m : Machine) (s : List ℕ) → Bounded m s → size_allowed (length s) ≡ true → (t : List ℕ) → length t ≡ length s
-    → read_of (deck_of m s) t ≡ read_outcome (record { machine = m; answer = DeckRead }) s
+    → read_of (deck_of m s) t ≡ read_outcome (record { machine = m; answer = (Ok tt) }) s
 unfolding status_allowed
 written_reads m s b allowed t l = deck_reads m s allowed (lt-ltb _ _ b.status) b.four t l
 
@@ -211,14 +210,14 @@ pub record Wrote (m : Machine) (s out : List ℕ) (n : ℕ) : Type 0 where
   pub long : n ≡ length (deck_of m s)
   pub output : (write_of m s out).output ≡ over out 0 (deck_of m s)
 
-not_wrote : (b : Bool) (x y : WriteOutcome) (n : ℕ) → (cond b x y).gave ≡ DeckWritten n → (y.gave ≡ DeckWritten n → ⊥) → (b ≡ true) × (x.gave ≡ DeckWritten n)
+not_wrote : (b : Bool) (x y : WriteOutcome) (n : ℕ) → (cond b x y).gave ≡ Ok n → (y.gave ≡ Ok n → ⊥) → (b ≡ true) × (x.gave ≡ Ok n)
 not_wrote true x y n e h = (refl, e)
 not_wrote false x y n e h = absurd (h e)
 
-refused_wrote : {x : WriteFault} {n : ℕ} → NotWritten x ≡ DeckWritten n → ⊥
+refused_wrote : {x : WriteFault} {n : ℕ} → Err x ≡ Ok n → ⊥
 refused_wrote e = let z : ◌≡◌ {A = ℕ} 0 1 = cc in omega arith
 
-pub wrote : (m : Machine) (s out : List ℕ) (n : ℕ) → (write_of m s out).gave ≡ DeckWritten n → Wrote m s out n
+pub wrote : (m : Machine) (s out : List ℕ) (n : ℕ) → (write_of m s out).gave ≡ Ok n → Wrote m s out n
 unfolding write_of
 wrote m s out n e =
     let e1 = not_wrote (size_allowed (length s)) _ _ n e refused_wrote in
@@ -233,8 +232,8 @@ wrote m s out n e =
     }
 
 -- what was written, read again, is the machine and the storage that were written
-pub write_then_read : (m : Machine) (s out t : List ℕ) (n : ℕ) → length m.wr ≡ 4 → (write_of m s out).gave ≡ DeckWritten n → length t ≡ length s
-    → read_of (take n (write_of m s out).output) t ≡ read_outcome (record { machine = m; answer = DeckRead }) s
+pub write_then_read : (m : Machine) (s out t : List ℕ) (n : ℕ) → length m.wr ≡ 4 → (write_of m s out).gave ≡ Ok n → length t ≡ length s
+    → read_of (take n (write_of m s out).output) t ≡ read_outcome (record { machine = m; answer = (Ok tt) }) s
 write_then_read m s out t n four e l =
     let w = wrote m s out n e in
     rw (w.output, w.long, written_front m s out) (deck_reads m s w.size w.status four t l)
@@ -343,7 +342,7 @@ reread_turn f count next n d done e l p more =
     let at_n : n ≡ j + suc m = omega (arith, p.rising, p.below) in
     rw at_n (reread_page f count next j m d done l p at_j (more m _ at-m (done_length f count next j m d done l p at_j)))
 
-reread : (f count next n : ℕ) (d done : List ℕ) → next + n ≡ count → length done ≡ next * 256 → later_answer f d count next ≡ DeckRead → Reread f d done next n
+reread : (f count next n : ℕ) (d done : List ℕ) → next + n ≡ count → length done ≡ next * 256 → later_answer f d count next ≡ Ok tt → Reread f d done next n
 reread zero count next n d done e l a = absurd (not_none d count next a)
 reread (suc f) count next n d done e l a =
     ⊎_elim
@@ -388,7 +387,7 @@ bytes_paged (suc f) d s h k =
 word_below : (h l : ℕ) → h < 256 → l < 256 → h * 256 + l < 65536
 word_below h l p q = omega arith
 
-module _ (d : List ℕ) (size : ℕ) (bytes : Bytes d) (good : deck_answer d size ≡ DeckRead) where
+module _ (d : List ℕ) (size : ℕ) (bytes : Bytes d) (good : deck_answer d size ≡ Ok tt) where
   first_read : FirstAt d size
   first_read = (accepted d size good).0
 
@@ -421,7 +420,7 @@ module _ (d : List ℕ) (size : ℕ) (bytes : Bytes d) (good : deck_answer d siz
   size_read = rw (← first_read.size_is) (named_allowed (get_or d 1 0) (bytes 1))
 
   -- and so it is written, where there is room for it
-  pub accepted_written : (out : List ℕ) → length d ≤ length out → write_of (machine_in d) (storage_in d size) out ≡ write_outcome (DeckWritten (length d)) (over out 0 d)
+  pub accepted_written : (out : List ℕ) → length d ≤ length out → write_of (machine_in d) (storage_in d size) out ≡ write_outcome (Ok (length d)) (over out 0 d)
   unfolding write_of
   accepted_written out room = rw (storage_size, size_read, status_read, accepted_deck, le-leb _ _ room)
 
@@ -452,16 +451,16 @@ module _ (d : List ℕ) (size : ℕ) (bytes : Bytes d) (good : deck_answer d siz
 
 module _ (d s : List ℕ) where
   -- an accepted deck, read and written again, is that deck byte for byte
-  pub read_writes : Bytes d → deck_answer d (length s) ≡ DeckRead → deck_of (read_of d s).gave.machine (read_of d s).storage ≡ d
+  pub read_writes : Bytes d → deck_answer d (length s) ≡ Ok tt → deck_of (read_of d s).gave.machine (read_of d s).storage ≡ d
   unfolding read_of
   read_writes b e = rw e (accepted_deck d (length s) b e)
 
   -- a refused deck gives a zeroed machine and leaves the storage
-  pub refused_leaves : (x : DeckFault) → deck_answer d (length s) ≡ DeckRefused x → read_of d s ≡ read_outcome (record { machine = zeroed; answer = DeckRefused x }) s
+  pub refused_leaves : (x : DeckFault) → deck_answer d (length s) ≡ Err x → read_of d s ≡ read_outcome (record { machine = zeroed; answer = Err x }) s
   unfolding read_of
   refused_leaves x e = rw e
 
 -- a machine and its storage have one deck: two that are accepted and read the same are the same
-pub one_deck : (d d' : List ℕ) (size : ℕ) → Bytes d → Bytes d' → deck_answer d size ≡ DeckRead → deck_answer d' size ≡ DeckRead
+pub one_deck : (d d' : List ℕ) (size : ℕ) → Bytes d → Bytes d' → deck_answer d size ≡ Ok tt → deck_answer d' size ≡ Ok tt
     → machine_in d ≡ machine_in d' → storage_in d size ≡ storage_in d' size → d ≡ d'
 one_deck d d' size b b' e e' m s = sym (accepted_deck d size b e) ∙ rw (m, s) (accepted_deck d' size b' e')

@@ -1,45 +1,42 @@
 -- What decoding finds: an instruction's Q and R bytes are those after its opcode, and a stop is 4, 5 or 6. What carries it: the tests of decoding, one by one.
+use Rattle.std.specs.Prelude.{Ok, Err, Option, Some, None}
 use mathlib.Core.Path.{◌≡◌, refl}
 use mathlib.Core.Bool.{Bool, true, false, cond}
 use mathlib.Core.List.{List}
 use Prim.Native.Nat.{ℕ, ◌+◌, ◌-◌}
 use lib.ListN.{length, get_or}
 use lib.Dec.{leb, ltb}
-use Rattle.manual.specs.declared.Named.{Named}
-use Rattle.manual.specs.declared.Named.TheVariants.{Known, Unknown}
 use Rattle.manual.specs.declared.Form.{Form}
 use Rattle.manual.specs.declared.Operation.{Operation}
 use Rattle.manual.specs.declared.Stop.TheVariants.{CutShort, OpcodeUnknown, QRefused, OperandOutside, DigitRefused, Supervisor}
-use Rattle.manual.specs.declared.Decoded.{Decoded}
-use Rattle.manual.specs.declared.Decoded.TheVariants.{Found, NotFound}
 use Rattle.manual.specs.Formats.{form_of, operation_of, allowed}
-use Rattle.manual.specs.Decode.{instruction_of, with_q, decode_named, decode_opcode, decode_of}
+use Rattle.manual.specs.Decode.{instruction_of, with_q, decode_named, decode_opcode, decode_of, Decoded}
 
 -- what decoding at IAR may find
 abbrev pub DecodedAt : List ℕ → ℕ → Decoded → Type 0
-DecodedAt s iar (Found i) = (i.q ≡ get_or s (iar + 1) 0) × (i.r ≡ get_or s (iar + 2) 0)
-DecodedAt s iar (NotFound CutShort) = Unit {0}
-DecodedAt s iar (NotFound OpcodeUnknown) = Unit {0}
-DecodedAt s iar (NotFound QRefused) = Unit {0}
-DecodedAt s iar (NotFound OperandOutside) = ⊥
-DecodedAt s iar (NotFound DigitRefused) = ⊥
-DecodedAt s iar (NotFound (Supervisor q r)) = ⊥
+DecodedAt s iar (Ok i) = (i.q ≡ get_or s (iar + 1) 0) × (i.r ≡ get_or s (iar + 2) 0)
+DecodedAt s iar (Err CutShort) = Unit {0}
+DecodedAt s iar (Err OpcodeUnknown) = Unit {0}
+DecodedAt s iar (Err QRefused) = Unit {0}
+DecodedAt s iar (Err OperandOutside) = ⊥
+DecodedAt s iar (Err DigitRefused) = ⊥
+DecodedAt s iar (Err (Supervisor q r)) = ⊥
 
 module _ (s : List ℕ) (iar : ℕ) where
-  by_q : (b : Bool) (f : Form) (op : Operation) → DecodedAt s iar (cond b (Found (instruction_of iar f op (λ k. get_or s (iar + k) 0))) (NotFound QRefused))
+  by_q : (b : Bool) (f : Form) (op : Operation) → DecodedAt s iar (cond b (Ok (instruction_of iar f op (λ k. get_or s (iar + k) 0))) (Err QRefused))
   unfolding instruction_of
   by_q true f op = (refl, refl)
   by_q false f op = tt
 
-  by_length : (b : Bool) (f : Form) (op : Operation) → DecodedAt s iar (cond b (NotFound CutShort) (with_q iar f op (λ k. get_or s (iar + k) 0)))
+  by_length : (b : Bool) (f : Form) (op : Operation) → DecodedAt s iar (cond b (Err CutShort) (with_q iar f op (λ k. get_or s (iar + k) 0)))
   by_length true f op = tt
   by_length false f op = by_q (allowed op (get_or s (iar + 1) 0)) f op
 
-  by_name : (f : Form) (n : Named) → DecodedAt s iar (decode_named s iar f n)
-  by_name f Unknown = tt
-  by_name f (Known op) = by_length (ltb (length s - iar) f.length) f op
+  by_name : (f : Form) (n : Option Operation) → DecodedAt s iar (decode_named s iar f n)
+  by_name f None = tt
+  by_name f (Some op) = by_length (ltb (length s - iar) f.length) f op
 
-  by_size : (b : Bool) (opcode : ℕ) → DecodedAt s iar (cond b (NotFound CutShort) (decode_opcode s iar opcode))
+  by_size : (b : Bool) (opcode : ℕ) → DecodedAt s iar (cond b (Err CutShort) (decode_opcode s iar opcode))
   by_size true opcode = tt
   by_size false opcode = by_name (form_of _) (operation_of opcode)
 

@@ -1,5 +1,6 @@
 -- A step's rule reads a place if and only if document 01's list has it: no more, no less, for every instruction and stop.
 -- What carries it: how reading goes through each form of a program, then one line an operation.
+use Rattle.std.specs.Prelude.{Ok, Err, Option, Some, None}
 use mathlib.Core.Path.{◌≡◌, refl, ap, sym, ◌∙◌}
 use mathlib.Core.Bool.{Bool, true, false, cond, ◌||◌, or-false, or_assoc}
 use mathlib.Core.List.{List, [], ◌∷◌, ◌++◌}
@@ -14,19 +15,13 @@ use Rattle.manual.specs.declared.Operation.{Operation}
 use Rattle.manual.specs.declared.Operation.TheVariants.{Zaz, Az, Sz, Mvx, Ed, Itc, Mvc, Clc, Alc, Slc, St, L, A, S, Tbn, Tbf, Sbn, Sbf, Mvi, Cli, Sli, Bc, Jc, La, Svc}
 use Rattle.manual.specs.declared.Base.{Base}
 use Rattle.manual.specs.declared.Base.TheVariants.{Absent, Direct, FromXr1, FromXr2, FromArr, Forward, Backward}
-use Rattle.manual.specs.declared.Named.{Named}
-use Rattle.manual.specs.declared.Named.TheVariants.{Known, Unknown}
 use Rattle.manual.specs.declared.Form.{Form}
 use Rattle.manual.specs.declared.Fields.{Fields}
 use Rattle.manual.specs.declared.Columns.{Columns}
-use Rattle.manual.specs.declared.Way.{Way}
-use Rattle.manual.specs.declared.Way.TheVariants.{Clear, Barred}
-use Rattle.manual.specs.declared.Decoded.{Decoded}
-use Rattle.manual.specs.declared.Decoded.TheVariants.{Found, NotFound}
 use Rattle.manual.specs.Places.{Place, mem, same, State, state, look, put}
-use Rattle.manual.specs.Programs.{Prog, ret, rd, wr, val, fin, reads, ◌>>=◌, rightward, leftward, Out, Given, clear, unless}
+use Rattle.manual.specs.Programs.{Prog, ret, rd, wr, val, fin, reads, ◌>>=◌, rightward, leftward, Out, Given, clear, unless, Way}
 use Rattle.manual.specs.Formats.{form_of, operation_of, allowed}
-use Rattle.manual.specs.Decode.{instruction_of, with_q, decode_named, decode_opcode, decode_of, fetch_named, fetch_opcode, fetch}
+use Rattle.manual.specs.Decode.{instruction_of, with_q, decode_named, decode_opcode, decode_of, fetch_named, fetch_opcode, fetch, Decoded}
 use Rattle.manual.specs.Zoned.{put_digits, put_zoned, put_result, zaz, combine}
 use Rattle.manual.specs.Edit.{takes_digit, put_edited, ends_scan, scan, mvx, ed, itc}
 use Rattle.manual.specs.Logical.{Column, copy, mvc, clc, columns, alc, slc}
@@ -60,8 +55,8 @@ module _ {X : Type 0} where
 
 pub e_unless : (w : Way) (p : Prog Out) (σ : State) (x : Place) → reads (unless w p) σ x ≡ cond (clear w) (reads p σ x) false
 unfolding unless reads
-e_unless Clear p σ x = refl
-e_unless (Barred y) p σ x = refl
+e_unless (Ok tt) p σ x = refl
+e_unless (Err y) p σ x = refl
 
 pub e_bind : {X Y : Type 0} (p : Prog X) (f : X → Prog Y) (σ : State) (x : Place) → reads (p >>= f) σ x ≡ (reads p σ x || reads (f (val p σ)) (fin p σ) x)
 unfolding reads val fin ◌>>=◌
@@ -213,8 +208,8 @@ module _ (m : Machine) (s : List ℕ) (x : Place) where
 
   e_follow : (d : Decoded) → reads (follow d (given m s)) (state m s) x ≡ elem x (further_reads m s d)
   unfolding follow perform
-  e_follow (NotFound y) = e_ret _ _ x
-  e_follow (Found i) = simp (e_addressed, e_exec i.operation (fields_of m i) m.iar m.status (state m s) x, elem_append)
+  e_follow (Err y) = e_ret _ _ x
+  e_follow (Ok i) = simp (e_addressed, e_exec i.operation (fields_of m i) m.iar m.status (state m s) x, elem_append)
 
 -- ---- fetching
 
@@ -222,7 +217,7 @@ module _ (m : Machine) (s : List ℕ) (iar : ℕ) (x : Place) where
   whole_q : (f : Form) (op : Operation) (byte : ℕ → ℕ) → whole (with_q iar f op byte) ≡ true
   whole_q f op byte = on (allowed op (byte 1))
     where
-      on : (b : Bool) → whole (cond b (Found (instruction_of iar f op byte)) (NotFound QRefused)) ≡ true
+      on : (b : Bool) → whole (cond b (Ok (instruction_of iar f op byte)) (Err QRefused)) ≡ true
       on true = refl
       on false = refl
 
@@ -234,23 +229,23 @@ module _ (m : Machine) (s : List ℕ) (iar : ℕ) (x : Place) where
       ap (λ (n : ℕ). elem x (span n iar)) (sym e)
 
   e_known : (b : Bool) (code : ℕ) (f : Form) (op : Operation) (byte : ℕ → ℕ) → Sound f
-      → (same (mem iar) x || reads (cond b (ret (NotFound CutShort)) (rightward (f.length - 1) (iar + 1) >>= λ later. ret (with_q iar f op (λ k. get_or (code ∷ later) k 0)))) (state m s) x)
-      ≡ elem x (cond (whole (cond b (NotFound CutShort) (with_q iar f op byte))) (span f.length iar) (span 1 iar))
+      → (same (mem iar) x || reads (cond b (ret (Err CutShort)) (rightward (f.length - 1) (iar + 1) >>= λ later. ret (with_q iar f op (λ k. get_or (code ∷ later) k 0)))) (state m s) x)
+      ≡ elem x (cond (whole (cond b (Err CutShort) (with_q iar f op byte))) (span f.length iar) (span 1 iar))
   unfolding span
   e_known true code f op byte h = simp (e_ret, or-false)
   e_known false code f op byte h = rw (whole_q f op byte) (simp (e_bind, e_rightward, e_ret, or-false) (all_bytes f h))
 
-  e_named : (code : ℕ) (f : Form) (n : Named) → Sound f
+  e_named : (code : ℕ) (f : Form) (n : Option Operation) → Sound f
       → (same (mem iar) x || reads (fetch_named (length s) iar code f n) (state m s) x) ≡ elem x (cond (whole (decode_named s iar f n)) (span f.length iar) (span 1 iar))
   unfolding span
-  e_named code f Unknown h = simp (e_ret, or-false)
-  e_named code f (Known op) h = e_known (ltb (length s - iar) f.length) code f op (λ k. get_or s (iar + k) 0) h
+  e_named code f None h = simp (e_ret, or-false)
+  e_named code f (Some op) h = e_known (ltb (length s - iar) f.length) code f op (λ k. get_or s (iar + k) 0) h
 
   e_from : (b : Bool)
-      → reads (cond b (ret (NotFound CutShort)) (rd (mem iar) λ c. fetch_opcode (length s) iar c)) (state m s) x
+      → reads (cond b (ret (Err CutShort)) (rd (mem iar) λ c. fetch_opcode (length s) iar c)) (state m s) x
       ≡ elem x
       (cond b []
-      (cond (whole (cond b (NotFound CutShort) (decode_opcode s iar (get_or s iar 0)))) (span (form_of (get_or s iar 0 / 16)).length iar) (span 1 iar)))
+      (cond (whole (cond b (Err CutShort) (decode_opcode s iar (get_or s iar 0)))) (span (form_of (get_or s iar 0 / 16)).length iar) (span 1 iar)))
   e_from true = e_ret _ (state m s) x
   e_from false =
       let c : ℕ = get_or s iar 0 in

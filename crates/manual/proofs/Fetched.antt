@@ -1,5 +1,6 @@
 -- Fetching as a program finds what decoding finds, and changes nothing; so a step is what decoding finds, performed.
 -- What carries it: the bytes read one by one are the storage's, and a form's length holds its operands.
+use Rattle.std.specs.Prelude.{Ok, Err, Option, Some, None}
 use mathlib.Core.Path.{◌≡◌, refl, sym, ◌∙◌}
 use mathlib.Core.Bool.{Bool, true, false, cond}
 use mathlib.Core.List.{List, ◌∷◌}
@@ -10,8 +11,6 @@ use lib.ListN.{length, get_or}
 use lib.Dec.{leb, ltb}
 use borrow.Author.Tests.{leb-false}
 use Rattle.manual.specs.declared.Machine.{Machine}
-use Rattle.manual.specs.declared.Named.{Named}
-use Rattle.manual.specs.declared.Named.TheVariants.{Known, Unknown}
 use Rattle.manual.specs.declared.Base.{Base}
 use Rattle.manual.specs.declared.Base.TheVariants.{Absent, Direct, FromXr1, FromXr2, FromArr, Forward, Backward}
 use Rattle.manual.specs.declared.Group.{Group}
@@ -22,7 +21,6 @@ use Rattle.manual.specs.declared.Stop.TheVariants.{CutShort}
 use Rattle.manual.specs.declared.Operation.{Operation}
 use Rattle.manual.specs.declared.Answer.TheVariants.{Stopped}
 use Rattle.manual.specs.declared.Instruction.{Instruction}
-use Rattle.manual.specs.declared.Decoded.TheVariants.{Found, NotFound}
 use Rattle.manual.specs.Places.{mem, State, state}
 use Rattle.manual.specs.Programs.{Prog, ret, rd, val, fin, ◌>>=◌, rightward, Out}
 use Rattle.manual.specs.Formats.{base_of, width_of, length_of, form_of, operation_of, first_base, jump_bases}
@@ -124,21 +122,21 @@ module _ (iar : ℕ) (σ : State) where
       rw (rightward_at (n - 1) (iar + 1) k σ (omega arith), e)
 
   fetched_whole : (b : Bool) (f : Form) (op : Operation) → Sound f
-      → val (cond b (ret (NotFound CutShort)) (rightward (f.length - 1) (iar + 1) >>= λ later. ret (with_q iar f op (λ k. get_or (get_or σ.bytes iar 0 ∷ later) k 0)))) σ
-      ≡ cond b (NotFound CutShort) (with_q iar f op (λ k. get_or σ.bytes (iar + k) 0))
+      → val (cond b (ret (Err CutShort)) (rightward (f.length - 1) (iar + 1) >>= λ later. ret (with_q iar f op (λ k. get_or (get_or σ.bytes iar 0 ∷ later) k 0)))) σ
+      ≡ cond b (Err CutShort) (with_q iar f op (λ k. get_or σ.bytes (iar + k) 0))
   unfolding val
   fetched_whole true f op h = refl
   fetched_whole false f op h =
       val_bind (rightward (f.length - 1) (iar + 1)) _ σ ∙
       same_q σ.bytes iar f.length (λ k. get_or (get_or σ.bytes iar 0 ∷ val (rightward (f.length - 1) (iar + 1)) σ) k 0) (read_byte f.length) f op h refl
 
-  fetched_named : (f : Form) (n : Named) → Sound f → val (fetch_named (length σ.bytes) iar (get_or σ.bytes iar 0) f n) σ ≡ decode_named σ.bytes iar f n
-  fetched_named f Unknown h = unfold val in refl
-  fetched_named f (Known op) h = fetched_whole (ltb (length σ.bytes - iar) f.length) f op h
+  fetched_named : (f : Form) (n : Option Operation) → Sound f → val (fetch_named (length σ.bytes) iar (get_or σ.bytes iar 0) f n) σ ≡ decode_named σ.bytes iar f n
+  fetched_named f None h = unfold val in refl
+  fetched_named f (Some op) h = fetched_whole (ltb (length σ.bytes - iar) f.length) f op h
 
   fetched_from : (b : Bool)
-      → val (cond b (ret (NotFound CutShort)) (rd (mem iar) λ c. fetch_opcode (length σ.bytes) iar c)) σ
-      ≡ cond b (NotFound CutShort) (decode_opcode σ.bytes iar (get_or σ.bytes iar 0))
+      → val (cond b (ret (Err CutShort)) (rd (mem iar) λ c. fetch_opcode (length σ.bytes) iar c)) σ
+      ≡ cond b (Err CutShort) (decode_opcode σ.bytes iar (get_or σ.bytes iar 0))
   unfolding val
   fetched_from true = refl
   fetched_from false = fetched_named (form_of (get_or σ.bytes iar 0 / 16)) (operation_of (get_or σ.bytes iar 0)) (form_sound (get_or σ.bytes iar 0 / 16))
@@ -148,16 +146,16 @@ module _ (iar : ℕ) (σ : State) where
   val_fetch = fetched_from (leb (length σ.bytes) iar)
 
   kept_whole : (b : Bool) (code : ℕ) (f : Form) (op : Operation)
-      → fin (cond b (ret (NotFound CutShort)) (rightward (f.length - 1) (iar + 1) >>= λ later. ret (with_q iar f op (λ k. get_or (code ∷ later) k 0)))) σ ≡ σ
+      → fin (cond b (ret (Err CutShort)) (rightward (f.length - 1) (iar + 1) >>= λ later. ret (with_q iar f op (λ k. get_or (code ∷ later) k 0)))) σ ≡ σ
   unfolding fin
   kept_whole true code f op = refl
   kept_whole false code f op = fin_bind (rightward (f.length - 1) (iar + 1)) _ σ ∙ fin_rightward _ _ σ
 
-  kept_named : (size code : ℕ) (f : Form) (n : Named) → fin (fetch_named size iar code f n) σ ≡ σ
-  kept_named size code f Unknown = unfold fin in refl
-  kept_named size code f (Known op) = kept_whole (ltb (size - iar) f.length) code f op
+  kept_named : (size code : ℕ) (f : Form) (n : Option Operation) → fin (fetch_named size iar code f n) σ ≡ σ
+  kept_named size code f None = unfold fin in refl
+  kept_named size code f (Some op) = kept_whole (ltb (size - iar) f.length) code f op
 
-  kept_from : (b : Bool) (size : ℕ) → fin (cond b (ret (NotFound CutShort)) (rd (mem iar) λ c. fetch_opcode size iar c)) σ ≡ σ
+  kept_from : (b : Bool) (size : ℕ) → fin (cond b (ret (Err CutShort)) (rd (mem iar) λ c. fetch_opcode size iar c)) σ ≡ σ
   unfolding fin
   kept_from true size = refl
   kept_from false size = kept_named size (get_or σ.bytes iar 0) (form_of (get_or σ.bytes iar 0 / 16)) (operation_of (get_or σ.bytes iar 0))
@@ -174,7 +172,7 @@ module _ (m : Machine) (s : List ℕ) where
   did_step = simp (did_from, from_bind, val_fetch m.iar (state m s), fin_fetch)
 
   -- how decoding ended, where it found no instruction
-  pub did_stop : (x : Stop) → did m s (follow (NotFound x)) ≡ ended m (Stopped x) s
+  pub did_stop : (x : Stop) → did m s (follow (Err x)) ≡ ended m (Stopped x) s
   unfolding follow
   did_stop x = simp doing
 
@@ -187,7 +185,7 @@ module _ (m : Machine) (s : List ℕ) where
   from_addressed Forward next d k σ e = refl
   from_addressed Backward next d k σ e = refl
 
-  pub did_perform : (i : Instruction) → did m s (follow (Found i)) ≡ did m s (exec i.operation (fields_of m i))
+  pub did_perform : (i : Instruction) → did m s (follow (Ok i)) ≡ did m s (exec i.operation (fields_of m i))
   unfolding follow perform
   did_perform i =
       did_from m s (perform i) ∙

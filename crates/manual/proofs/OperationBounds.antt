@@ -1,4 +1,5 @@
 -- Every operation, and the step as a whole, keeps the numbers below their limits. What carries it: `Keeps` through each part of a rule, then one operation a time.
+use Rattle.std.specs.Prelude.{Ok, Err, Option, Some, None}
 use mathlib.Core.Bool.{Bool, true, false, cond}
 use mathlib.Core.List.{List, [], ◌∷◌}
 use Prim.Native.Nat.{ℕ, zero, suc, ◌+◌, ◌-◌, ◌*◌, ◌/◌, ◌%◌, ◌<◌}
@@ -11,21 +12,17 @@ use lib.Bits.{bit_and, or_lt, and_le_l}
 use Rattle.manual.specs.declared.Stop.TheVariants.{CutShort, OpcodeUnknown, QRefused, Supervisor}
 use Rattle.manual.specs.declared.Operation.{Operation}
 use Rattle.manual.specs.declared.Operation.TheVariants.{Zaz, Az, Sz, Mvx, Ed, Itc, Mvc, Clc, Alc, Slc, St, L, A, S, Tbn, Tbf, Sbn, Sbf, Mvi, Cli, Sli, Bc, Jc, La, Svc}
-use Rattle.manual.specs.declared.Named.{Named}
-use Rattle.manual.specs.declared.Named.TheVariants.{Known, Unknown}
 use Rattle.manual.specs.declared.Base.{Base}
 use Rattle.manual.specs.declared.Base.TheVariants.{Absent, Direct, FromXr1, FromXr2, FromArr, Forward, Backward}
 use Rattle.manual.specs.declared.Form.{Form}
 use Rattle.manual.specs.declared.Instruction.{Instruction}
 use Rattle.manual.specs.declared.Fields.{Fields}
 use Rattle.manual.specs.declared.Columns.{Columns}
-use Rattle.manual.specs.declared.Decoded.{Decoded}
-use Rattle.manual.specs.declared.Decoded.TheVariants.{Found, NotFound}
 use Rattle.manual.specs.Programs.{Prog, ret, rightward, leftward, Out, stop, go, Given}
 use Rattle.manual.specs.TheMachine.{test_false, turn_on, order_of}
 use Rattle.manual.specs.Formats.{form_of, named_of, first_base, width_of, allowed, reach, reach_right}
 use Rattle.manual.specs.Values.{value, digits_of, sign_order}
-use Rattle.manual.specs.Decode.{number_at, instruction_of, fetch_named, fetch}
+use Rattle.manual.specs.Decode.{number_at, instruction_of, fetch_named, fetch, Decoded}
 use Rattle.manual.specs.Zoned.{l1, l2, zoned_reach, put_digits, put_zoned, put_result, zaz, combine}
 use Rattle.manual.specs.Edit.{takes_digit, count20, put_edited, ed, half_moved, mvx, ends_scan, scan, itc}
 use Rattle.manual.specs.Logical.{reach_both, copy, mvc, clc, Column, added, subtracted, columns, fresh, onward, alc, slc}
@@ -330,18 +327,18 @@ plain_unknown = omega arith
 plain_q : BoundedStop QRefused
 plain_q = omega arith
 
-keeps_named : (size iar opcode : ℕ) (f : Form) (n : Named) → opcode < 256 → Keeps BoundedDecoded (fetch_named size iar opcode f n)
-keeps_named size iar opcode f Unknown h = giving {x = NotFound OpcodeUnknown} plain_unknown
-keeps_named size iar opcode f (Known op) h =
-    keeps_cond (ltb (size - iar) f.length) (giving {x = NotFound CutShort} plain_short)
+keeps_named : (size iar opcode : ℕ) (f : Form) (n : Option Operation) → opcode < 256 → Keeps BoundedDecoded (fetch_named size iar opcode f n)
+keeps_named size iar opcode f None h = giving {x = Err OpcodeUnknown} plain_unknown
+keeps_named size iar opcode f (Some op) h =
+    keeps_cond (ltb (size - iar) f.length) (giving {x = Err CutShort} plain_short)
     (keeps_bind (keeps_rightward (f.length - 1) (iar + 1)) λ later hs.
-    giving (pick BoundedDecoded (allowed op (get_or (opcode ∷ later) 1 0)) (Found (instruction_of iar f op (λ k. get_or (opcode ∷ later) k 0))) (NotFound QRefused)
+    giving (pick BoundedDecoded (allowed op (get_or (opcode ∷ later) 1 0)) (Ok (instruction_of iar f op (λ k. get_or (opcode ∷ later) k 0))) (Err QRefused)
     (instruction_below iar f op (λ k. get_or (opcode ∷ later) k 0) (cons_below 256 opcode later h hs)) plain_q))
 
 keeps_fetch : (size iar : ℕ) → Keeps BoundedDecoded (fetch size iar)
 unfolding fetch
 keeps_fetch size iar =
-    keeps_cond (leb size iar) (giving {x = NotFound CutShort} plain_short)
+    keeps_cond (leb size iar) (giving {x = Err CutShort} plain_short)
     (reading λ opcode h. keeps_named size iar opcode (form_of (opcode / 16)) (named_of (form_of (opcode / 16)).group (opcode % 16)) h)
 
 keeps_addressed : (base : Base) (next d : ℕ) (k : ℕ → Prog Out) → d < 65536
@@ -364,8 +361,8 @@ module _ (g : Given) (h : g.status < 64) where
 
   keeps_follow : (d : Decoded) → BoundedDecoded d → Keeps BoundedOut (follow d g)
   unfolding follow
-  keeps_follow (Found i) b = keeps_perform i b
-  keeps_follow (NotFound x) b = giving b
+  keeps_follow (Ok i) b = keeps_perform i b
+  keeps_follow (Err x) b = giving b
 
   pub keeps_step : Keeps BoundedOut (step g)
   unfolding step

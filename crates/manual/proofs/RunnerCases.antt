@@ -1,4 +1,5 @@
 -- Document 01's example of the deck runner, computed: the whole line. What carries it: the run stops at its second instruction, so a run of 2 is the run of a million.
+use Rattle.std.specs.Prelude.{Ok}
 use Prim.Native.Nat.{ℕ}
 use native.Mathlib.Omega.{arith}
 use mathlib.Core.Path.{◌≡◌, refl, ◌∙◌}
@@ -7,7 +8,6 @@ use lib.ListN.{replicate}
 use Rattle.manual.specs.declared.Machine.{Machine}
 use Rattle.manual.specs.declared.Answer.TheVariants.{Stopped}
 use Rattle.manual.specs.declared.Stop.TheVariants.{Supervisor}
-use Rattle.manual.specs.declared.ReadAnswer.TheVariants.{DeckRead}
 use Rattle.manual.specs.Programs.{val, fin, ◌>>=◌, rightward, unless, and_then}
 use Rattle.manual.specs.TheMachine.{size_allowed, budget_allowed, status_allowed}
 use Rattle.manual.specs.Formats.{form_of, named_of, first_base, allowed, reach}
@@ -37,7 +37,7 @@ machine iar = record { iar = iar; arr = 0; xr1 = 0; xr2 = 0; wr = 0 ∷ 0 ∷ 0 
 abbrev after : List ℕ
 after = code ++ replicate 9 0 ++ 0xF1 ∷ replicate 239 0
 
-reads : read_of deck (replicate 256 0) ≡ record { gave = record { machine = machine 0; answer = DeckRead }; storage = page }
+reads : read_of deck (replicate 256 0) ≡ record { gave = record { machine = machine 0; answer = (Ok tt) }; storage = page }
 unfolding deck_answer first_answer later_answer page_answer all_zero status_allowed over read_of machine_in storage_in paged
 reads = refl
 

@@ -1,4 +1,5 @@
 -- How a program runs, form by form: equations for `simp`, with `val`, `fin` and `did` kept shut. What carries it: induction on the program, once.
+use Rattle.std.specs.Prelude.{Ok, Err}
 use mathlib.Core.Path.{◌≡◌, refl, sym, ◌∙◌, ap}
 use mathlib.Core.Bool.{Bool, true, false, cond, ◌&&◌, false≢true}
 use mathlib.Core.List.{List, ◌∷◌}
@@ -12,10 +13,8 @@ use Rattle.manual.specs.declared.Machine.{Machine}
 use Rattle.manual.specs.declared.Answer.TheVariants.{Executed, Stopped}
 use Rattle.manual.specs.declared.Stop.{Stop}
 use Rattle.manual.specs.declared.Stop.TheVariants.{OperandOutside}
-use Rattle.manual.specs.declared.Way.{Way}
-use Rattle.manual.specs.declared.Way.TheVariants.{Clear, Barred}
 use Rattle.manual.specs.Places.{Place, State, state, look, put}
-use Rattle.manual.specs.Programs.{Prog, ret, rd, wr, val, fin, ◌>>=◌, rightward, leftward, Out, stop, go, Rule, clear, unless, and_then}
+use Rattle.manual.specs.Programs.{Prog, ret, rd, wr, val, fin, ◌>>=◌, rightward, leftward, Out, stop, go, Rule, clear, unless, and_then, Way}
 use Rattle.manual.specs.Formats.{reach, reach_right}
 use Rattle.manual.specs.Values.{bytes_of}
 use Rattle.manual.specs.Step.{Outcome, ended, moved, settle, given, did}
@@ -94,11 +93,11 @@ module _ (m : Machine) (s : List ℕ) where
   from_cond true p q σ = refl
   from_cond false p q σ = refl
 
-  pub from_clear : (p : Prog Out) (σ : State) → from m s (unless Clear p) σ ≡ from m s p σ
+  pub from_clear : (p : Prog Out) (σ : State) → from m s (unless (Ok tt) p) σ ≡ from m s p σ
   unfolding unless
   from_clear p σ = refl
 
-  pub from_barred : (x : Stop) (p : Prog Out) (σ : State) → from m s (unless (Barred x) p) σ ≡ ended m (Stopped x) s
+  pub from_barred : (x : Stop) (p : Prog Out) (σ : State) → from m s (unless (Err x) p) σ ≡ ended m (Stopped x) s
   unfolding unless
   from_barred x p σ = from_stop x σ
 
@@ -113,13 +112,13 @@ pub ruleset doing = (did_from, from_stop, from_go, from_rd, from_wr, from_cond, 
 -- a rule that nothing stands in the way of goes on
 pub unless_clear : (w : Way) (p : Prog Out) → clear w ≡ true → unless w p ≡ p
 unfolding unless
-unless_clear Clear p e = refl
-unless_clear (Barred x) p e = absurd (false≢true e)
+unless_clear (Ok tt) p e = refl
+unless_clear (Err x) p e = absurd (false≢true e)
 
 pub clear_both : (v w : Way) → clear (and_then v w) ≡ (clear v && clear w)
 unfolding and_then
-clear_both Clear w = refl
-clear_both (Barred x) w = refl
+clear_both (Ok tt) w = refl
+clear_both (Err x) w = refl
 
 pub and_both : (x y : Bool) → (x && y) ≡ true → (x ≡ true) × (y ≡ true)
 and_both true y e = (refl, e)
@@ -129,7 +128,7 @@ pub both_clear : (v w : Way) → clear (and_then v w) ≡ true → (clear v ≡ 
 both_clear v w e = and_both (clear v) (clear w) (sym (clear_both v w) ∙ e)
 
 -- an operand that is clear to be reached lies in storage
-clear_cond : (b : Bool) → clear (cond b Clear (Barred OperandOutside)) ≡ true → b ≡ true
+clear_cond : (b : Bool) → clear (cond b (Ok tt) (Err OperandOutside)) ≡ true → b ≡ true
 clear_cond true e = refl
 clear_cond false e = absurd (false≢true e)
 

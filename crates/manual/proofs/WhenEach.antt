@@ -1,4 +1,5 @@
 -- A step gives a number exactly when the table's row for it holds. What carries it: a step's answer is that of the order of the stops, and decoding's tests one by one.
+use Rattle.std.specs.Prelude.{Ok, Err, Option, Some, None}
 use mathlib.Core.Path.{◌≡◌, refl, ap, ◌∙◌, subst}
 use mathlib.Core.Bool.{Bool, true, false, cond, ◌&&◌}
 use mathlib.Core.List.{List}
@@ -10,21 +11,15 @@ use borrow.Author.Tests.{leb-true, leb-false, ltb-true, ltb-false, le-leb, lt-le
 use Rattle.manual.specs.declared.Machine.{Machine}
 use Rattle.manual.specs.declared.Operation.{Operation}
 use Rattle.manual.specs.declared.Operation.TheVariants.{Zaz, Az, Sz, Mvx, Ed, Itc, Mvc, Clc, Alc, Slc, St, L, A, S, Tbn, Tbf, Sbn, Sbf, Mvi, Cli, Sli, Bc, Jc, La, Svc}
-use Rattle.manual.specs.declared.Named.{Named}
-use Rattle.manual.specs.declared.Named.TheVariants.{Known, Unknown}
 use Rattle.manual.specs.declared.Instruction.{Instruction}
 use Rattle.manual.specs.declared.Fields.{Fields}
 use Rattle.manual.specs.declared.Stop.{Stop}
 use Rattle.manual.specs.declared.Stop.TheVariants.{CutShort, OpcodeUnknown, QRefused, OperandOutside, DigitRefused, Supervisor}
-use Rattle.manual.specs.declared.Way.{Way}
-use Rattle.manual.specs.declared.Way.TheVariants.{Clear, Barred}
-use Rattle.manual.specs.declared.Decoded.{Decoded}
-use Rattle.manual.specs.declared.Decoded.TheVariants.{Found, NotFound}
-use Rattle.manual.specs.Programs.{and_then}
+use Rattle.manual.specs.Programs.{and_then, Way}
 use Rattle.manual.specs.TheMachine.{size_allowed, status_allowed}
 use Rattle.manual.specs.Numbers.{number_of}
 use Rattle.manual.specs.Formats.{form_of, operation_of, allowed, reach, reach_right}
-use Rattle.manual.specs.Decode.{instruction_of, with_q, decode_named, decode_opcode, decode_of}
+use Rattle.manual.specs.Decode.{instruction_of, with_q, decode_named, decode_opcode, decode_of, Decoded}
 use Rattle.manual.specs.Values.{all_digits, digits_of}
 use Rattle.manual.specs.Edit.{source_reach}
 use Rattle.manual.specs.Step.{step_of}
@@ -35,23 +30,23 @@ use Rattle.manual.proofs.Answered.{answer_of, step_answer}
 -- ---- what may stand in an operation's way: 7, 8, or a call of SVC
 
 data Kind (op : Operation) : Way → Type 0 where
-  is_clear : Kind op Clear
-  is_outside : Kind op (Barred OperandOutside)
-  is_digit : Kind op (Barred DigitRefused)
-  is_call : (q r : ℕ) → op ≡ Svc → Kind op (Barred (Supervisor q r))
+  is_clear : Kind op (Ok tt)
+  is_outside : Kind op (Err OperandOutside)
+  is_digit : Kind op (Err DigitRefused)
+  is_call : (q r : ℕ) → op ≡ Svc → Kind op (Err (Supervisor q r))
 
-kind_range : (op : Operation) (b : Bool) → Kind op (cond b Clear (Barred OperandOutside))
+kind_range : (op : Operation) (b : Bool) → Kind op (cond b (Ok tt) (Err OperandOutside))
 kind_range op true = is_clear
 kind_range op false = is_outside
 
-kind_digits : (op : Operation) (b : Bool) → Kind op (cond b Clear (Barred DigitRefused))
+kind_digits : (op : Operation) (b : Bool) → Kind op (cond b (Ok tt) (Err DigitRefused))
 kind_digits op true = is_clear
 kind_digits op false = is_digit
 
 kind_then : (op : Operation) (v w : Way) → Kind op v → Kind op w → Kind op (and_then v w)
 unfolding and_then
-kind_then op Clear w h k = k
-kind_then op (Barred x) w h k = h
+kind_then op (Ok tt) w h k = k
+kind_then op (Err x) w h k = h
 
 module _ (op : Operation) where
   k_reach : (size n a : ℕ) → Kind op (reach size n a)
@@ -70,7 +65,7 @@ module _ (op : Operation) where
   unfolding source_reach
   k_source size n a = on (eqb n 0)
     where
-      on : (b : Bool) → Kind op (cond b Clear (reach size n a))
+      on : (b : Bool) → Kind op (cond b (Ok tt) (reach size n a))
       on true = is_clear
       on false = k_reach size n a
 
@@ -137,7 +132,7 @@ k_barred : (op : Operation) (f : Fields) (s : List ℕ) → Kind op (barred op f
 k_barred op f s = k_both op _ _ (k_outside op f (length s)) (k_further op f s)
 
 -- SVC is barred by its own call, and by nothing else
-svc_barred : (op : Operation) (f : Fields) (s : List ℕ) → op ≡ Svc → barred op f s ≡ Barred (Supervisor f.q f.r)
+svc_barred : (op : Operation) (f : Fields) (s : List ℕ) → op ≡ Svc → barred op f s ≡ Err (Supervisor f.q f.r)
 unfolding and_then outside further
 svc_barred op f s e = rw e
 
@@ -151,11 +146,11 @@ module _ (m : Machine) (s : List ℕ) (t : Taken m s) where
   unfolding step_of
   entered = rw (t.size, t.status, step_answer m s)
 
-  found : (i : Instruction) → decode_of s m.iar ≡ Found i → barred_at m s ≡ barred i.operation (fields_of m i) s
+  found : (i : Instruction) → decode_of s m.iar ≡ Ok i → barred_at m s ≡ barred i.operation (fields_of m i) s
   unfolding barred_at
   found i e = rw e
 
-  not_found : (x : Stop) → decode_of s m.iar ≡ NotFound x → barred_at m s ≡ Barred x
+  not_found : (x : Stop) → decode_of s m.iar ≡ Err x → barred_at m s ≡ Err x
   unfolding barred_at
   not_found x e = rw e
 
@@ -178,7 +173,7 @@ when_gives m s (When.called i t e h) = entered m s t ∙ ap way_number (found m 
 -- ---- some row holds
 
 module _ (m : Machine) (s : List ℕ) where
-  row_found : Taken m s → (i : Instruction) → decode_of s m.iar ≡ Found i → (w : Way) → barred i.operation (fields_of m i) s ≡ w → Kind i.operation w
+  row_found : Taken m s → (i : Instruction) → decode_of s m.iar ≡ Ok i → (w : Way) → barred i.operation (fields_of m i) s ≡ w → Kind i.operation w
       → When m s (way_number w)
   row_found t i e w h is_clear = When.executed i t e h
   row_found t i e w h is_outside = When.outside i t e h
@@ -186,27 +181,27 @@ module _ (m : Machine) (s : List ℕ) where
   row_found t i e w h (is_call q r k) = When.called i t e k
 
   row_q : Taken m s → (op : Operation) → Whole m s op → (b : Bool) → allowed op (get_or s (m.iar + 1) 0) ≡ b → (d : Decoded)
-      → d ≡ cond b (Found (instruction_of m.iar (form_of (opcode_at m s / 16)) op (λ k. get_or s (m.iar + k) 0))) (NotFound QRefused) → decode_of s m.iar ≡ d
+      → d ≡ cond b (Ok (instruction_of m.iar (form_of (opcode_at m s / 16)) op (λ k. get_or s (m.iar + k) 0))) (Err QRefused) → decode_of s m.iar ≡ d
       → When m s (way_number (barred_in m s d))
   row_q t op w true h d g e =
       rw g
       (row_found t (instruction_of m.iar (form_of (opcode_at m s / 16)) op (λ k. get_or s (m.iar + k) 0)) (e ∙ g) _ refl (k_barred _ _ s))
   row_q t op w false h d g e = rw g (When.q_refused op t w h)
 
-  row_length : Taken m s → (op : Operation) → m.iar < length s → operation_of (opcode_at m s) ≡ Known op → (b : Bool) → ltb (length s - m.iar) (length_at m s) ≡ b
-      → decode_of s m.iar ≡ cond b (NotFound CutShort) (with_q m.iar (form_of (opcode_at m s / 16)) op (λ k. get_or s (m.iar + k) 0))
-      → When m s (way_number (barred_in m s (cond b (NotFound CutShort) (with_q m.iar (form_of (opcode_at m s / 16)) op (λ k. get_or s (m.iar + k) 0)))))
+  row_length : Taken m s → (op : Operation) → m.iar < length s → operation_of (opcode_at m s) ≡ Some op → (b : Bool) → ltb (length s - m.iar) (length_at m s) ≡ b
+      → decode_of s m.iar ≡ cond b (Err CutShort) (with_q m.iar (form_of (opcode_at m s / 16)) op (λ k. get_or s (m.iar + k) 0))
+      → When m s (way_number (barred_in m s (cond b (Err CutShort) (with_q m.iar (form_of (opcode_at m s / 16)) op (λ k. get_or s (m.iar + k) 0)))))
   row_length t op h n true l e = When.cut_short op t h n (ltb-true _ _ l)
   row_length t op h n false l e =
       row_q t op (record { inside = h; named = n; whole = ltb-false _ _ l }) (allowed op (get_or s (m.iar + 1) 0)) refl _ refl e
 
-  row_name : Taken m s → m.iar < length s → (n : Named) → operation_of (opcode_at m s) ≡ n → decode_of s m.iar ≡ decode_named s m.iar (form_of (opcode_at m s / 16)) n
+  row_name : Taken m s → m.iar < length s → (n : Option Operation) → operation_of (opcode_at m s) ≡ n → decode_of s m.iar ≡ decode_named s m.iar (form_of (opcode_at m s / 16)) n
       → When m s (way_number (barred_in m s (decode_named s m.iar (form_of (opcode_at m s / 16)) n)))
-  row_name t h Unknown g e = When.opcode_unknown t h g
-  row_name t h (Known op) g e = row_length t op h g (ltb (length s - m.iar) (length_at m s)) refl e
+  row_name t h None g e = When.opcode_unknown t h g
+  row_name t h (Some op) g e = row_length t op h g (ltb (length s - m.iar) (length_at m s)) refl e
 
-  row_size : Taken m s → (b : Bool) → leb (length s) m.iar ≡ b → decode_of s m.iar ≡ cond b (NotFound CutShort) (decode_opcode s m.iar (opcode_at m s))
-      → When m s (way_number (barred_in m s (cond b (NotFound CutShort) (decode_opcode s m.iar (opcode_at m s)))))
+  row_size : Taken m s → (b : Bool) → leb (length s) m.iar ≡ b → decode_of s m.iar ≡ cond b (Err CutShort) (decode_opcode s m.iar (opcode_at m s))
+      → When m s (way_number (barred_in m s (cond b (Err CutShort) (decode_opcode s m.iar (opcode_at m s)))))
   row_size t true h e = When.past_storage t (leb-true _ _ h)
   row_size t false h e = row_name t (leb-false _ _ h) (operation_of (opcode_at m s)) refl e
 

@@ -1,5 +1,6 @@
 -- A step's rule writes exactly the places that document 01's list has, in that order; a step that stops writes none.
 -- What carries it: how writing goes through each form of a program, then one line an operation.
+use Rattle.std.specs.Prelude.{Ok, Err, Option, Some, None}
 use mathlib.Core.Path.{◌≡◌, refl, ap, ◌∙◌}
 use mathlib.Core.Bool.{Bool, true, false, cond, ◌&&◌}
 use mathlib.Core.List.{List, [], ◌∷◌, ◌++◌}
@@ -11,18 +12,12 @@ use Rattle.manual.specs.declared.Operation.{Operation}
 use Rattle.manual.specs.declared.Operation.TheVariants.{Zaz, Az, Sz, Mvx, Ed, Itc, Mvc, Clc, Alc, Slc, St, L, A, S, Tbn, Tbf, Sbn, Sbf, Mvi, Cli, Sli, Bc, Jc, La, Svc}
 use Rattle.manual.specs.declared.Base.{Base}
 use Rattle.manual.specs.declared.Base.TheVariants.{Absent, Direct, FromXr1, FromXr2, FromArr, Forward, Backward}
-use Rattle.manual.specs.declared.Named.{Named}
-use Rattle.manual.specs.declared.Named.TheVariants.{Known, Unknown}
 use Rattle.manual.specs.declared.Form.{Form}
 use Rattle.manual.specs.declared.Fields.{Fields}
 use Rattle.manual.specs.declared.Columns.{Columns}
-use Rattle.manual.specs.declared.Way.{Way}
-use Rattle.manual.specs.declared.Way.TheVariants.{Clear, Barred}
-use Rattle.manual.specs.declared.Decoded.{Decoded}
-use Rattle.manual.specs.declared.Decoded.TheVariants.{Found, NotFound}
 use Rattle.manual.specs.Places.{Place, mem, State, state, look, put}
-use Rattle.manual.specs.Programs.{Prog, ret, rd, wr, val, fin, wrote, ◌>>=◌, rightward, leftward, Out, Given, clear, unless}
-use Rattle.manual.specs.Decode.{decode_of, fetch_named, fetch}
+use Rattle.manual.specs.Programs.{Prog, ret, rd, wr, val, fin, wrote, ◌>>=◌, rightward, leftward, Out, Given, clear, unless, Way}
+use Rattle.manual.specs.Decode.{decode_of, fetch_named, fetch, Decoded}
 use Rattle.manual.specs.Zoned.{put_digits, put_zoned, put_result, zaz, combine}
 use Rattle.manual.specs.Edit.{takes_digit, put_edited, ends_scan, scan, mvx, ed, itc}
 use Rattle.manual.specs.Logical.{Column, copy, mvc, clc, columns, alc, slc}
@@ -57,8 +52,8 @@ module _ {X : Type 0} where
 
 pub w_unless : (w : Way) (p : Prog Out) (σ : State) → wrote (unless w p) σ ≡ cond (clear w) (wrote p σ) []
 unfolding unless wrote
-w_unless Clear p σ = refl
-w_unless (Barred x) p σ = refl
+w_unless (Ok tt) p σ = refl
+w_unless (Err x) p σ = refl
 
 pub w_bind : {X Y : Type 0} (p : Prog X) (f : X → Prog Y) (σ : State) → wrote (p >>= f) σ ≡ wrote p σ ++ wrote (f (val p σ)) (fin p σ)
 unfolding wrote fin val ◌>>=◌
@@ -184,13 +179,13 @@ module _ (m : Machine) (s : List ℕ) where
 
   w_follow : (d : Decoded) → wrote (follow d (given m s)) (state m s) ≡ further_writes m s d
   unfolding follow perform
-  w_follow (NotFound x) = w_ret _ _
-  w_follow (Found i) = simp (w_addressed, w_exec i.operation (fields_of m i) m.iar m.status (state m s))
+  w_follow (Err x) = w_ret _ _
+  w_follow (Ok i) = simp (w_addressed, w_exec i.operation (fields_of m i) m.iar m.status (state m s))
 
 module _ (size iar : ℕ) (σ : State) where
-  w_named : (code : ℕ) (f : Form) (n : Named) → wrote (fetch_named size iar code f n) σ ≡ []
-  w_named code f Unknown = w_ret _ σ
-  w_named code f (Known op) = simp (writing, w_rightward)
+  w_named : (code : ℕ) (f : Form) (n : Option Operation) → wrote (fetch_named size iar code f n) σ ≡ []
+  w_named code f None = w_ret _ σ
+  w_named code f (Some op) = simp (writing, w_rightward)
 
   w_fetch : wrote (fetch size iar) σ ≡ []
   unfolding fetch

@@ -1,4 +1,5 @@
 -- The field that AZ, SZ and ZAZ leave, read back, is the exact signed result cut to it. What carries it: the digits written from the right are those of the cut size.
+use Rattle.std.specs.Prelude.{Ok}
 use mathlib.Core.Path.{◌≡◌, refl, sym, ◌∙◌, ap}
 use mathlib.Core.Bool.{Bool, true, false, cond, not, ◌&&◌, ◌||◌, false≢true}
 use mathlib.Core.List.{List}
@@ -15,7 +16,6 @@ use Rattle.manual.specs.declared.Machine.{Machine}
 use Rattle.manual.specs.declared.Fields.{Fields}
 use Rattle.manual.specs.declared.Answer.{Answer}
 use Rattle.manual.specs.declared.Answer.TheVariants.{Executed}
-use Rattle.manual.specs.declared.Way.TheVariants.{Clear}
 use Rattle.manual.specs.Places.{state}
 use Rattle.manual.specs.Programs.{fin, clear, and_then}
 use Rattle.manual.specs.TheMachine.{decimal_overflow, equal, low, high, is_on}
@@ -315,7 +315,7 @@ sign_high (negsuc k) = (λ e. absurd (unlike (sign_minus k) e (λ q. omega arith
 
 -- ---- the instructions
 
-pub digits_clear : (bs : List ℕ) → all_digits bs ≡ true → digits_of bs ≡ Clear
+pub digits_clear : (bs : List ℕ) → all_digits bs ≡ true → digits_of bs ≡ Ok tt
 unfolding digits_of
 digits_clear bs e = rw e
 

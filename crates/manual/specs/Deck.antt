@@ -1,16 +1,13 @@
 -- The deck: records of one byte of kind, then a body whose length the kind fixes. The reader and the writer as functions on lists of bytes.
-use Rattle.std.specs.Prelude.{ℕ, zero, suc, ◌+◌, ◌-◌, ◌*◌, ◌/◌, ◌%◌, ◌≡◌, Bool, true, false, cond, not, ◌&&◌, List, [], ◌∷◌, ◌++◌, eqb, leb, ltb, length, get_or, take, drop, replicate}
+use Rattle.std.specs.Prelude.{ℕ, zero, suc, ◌+◌, ◌-◌, ◌*◌, ◌/◌, ◌%◌, ◌≡◌, Bool, true, false, cond, not, ◌&&◌, List, [], ◌∷◌, ◌++◌, eqb, leb, ltb, length, get_or, take, drop, replicate, Ok, Err}
 use Rattle.std.proofs.Common.{ap, sym, ◌∙◌}
 use Rattle.manual.specs.declared.Machine.{Machine}
 use Rattle.manual.specs.declared.DeckFault.{DeckFault}
 use Rattle.manual.specs.declared.DeckFault.TheVariants.{SizeNotTheDecks, StatusNotAllowed, EndsEarly, KindUnknown, OutOfOrder, PageBeyond, PageOfZeros, BytesAfterEnd}
-use Rattle.manual.specs.declared.ReadAnswer.{ReadAnswer}
-use Rattle.manual.specs.declared.ReadAnswer.TheVariants.{DeckRead, DeckRefused}
 use Rattle.manual.specs.declared.DeckOut.{DeckOut}
 use Rattle.manual.specs.declared.WriteFault.TheVariants.{SizeNotAllowed, StatusNotWritable, OutputShort}
-use Rattle.manual.specs.declared.WriteAnswer.{WriteAnswer}
-use Rattle.manual.specs.declared.WriteAnswer.TheVariants.{DeckWritten, NotWritten}
 use Rattle.manual.specs.TheMachine.{size_allowed, status_allowed}
+use Rattle.manual.specs.Numbers.{ReadAnswer, WriteAnswer}
 
 -- ---- records
 
@@ -74,7 +71,7 @@ deck_of m s = machine_record (length s / page_size) m ++ (page_records (length s
 -- more where the test holds, else refused
 abbrev pub provided : Bool → DeckFault → ReadAnswer → ReadAnswer
 provided true fault more = more
-provided false fault more = DeckRefused fault
+provided false fault more = Err fault
 
 -- what each record is asked first, at the front of d: none left 11; kind 12; a first record not 01, or a later 01, 13; body short 11
 abbrev pub record_answer : Bool → List ℕ → ReadAnswer → ReadAnswer
@@ -100,11 +97,11 @@ page_answer d pages next more =
 
 -- the records after the first. Each has a byte or more, so that n need not be above the count of bytes left
 unfoldable pub later_answer : ℕ → List ℕ → ℕ → ℕ → ReadAnswer
-later_answer zero d pages next = DeckRefused EndsEarly
+later_answer zero d pages next = Err EndsEarly
 later_answer (suc n) d pages next =
     let more : ReadAnswer = later_answer n (drop 258 d) pages (get_or d 1 0 + 1) in
     record_answer (not (eqb (get_or d 0 0) 0x01)) d
-    (cond (eqb (get_or d 0 0) 0x02) (page_answer d pages next more) (provided (eqb (length d) 1) BytesAfterEnd DeckRead))
+    (cond (eqb (get_or d 0 0) 0x02) (page_answer d pages next more) (provided (eqb (length d) 1) BytesAfterEnd (Ok tt)))
 
 -- the deck d for a storage of this size
 unfoldable pub deck_answer : List ℕ → ℕ → ReadAnswer
@@ -135,8 +132,8 @@ zeroed = record { iar = 0; arr = 0; xr1 = 0; xr2 = 0; wr = 0 ∷ 0 ∷ 0 ∷ 0 �
 
 -- a refusal returns a zeroed machine and leaves storage as lent
 abbrev pub read_with : ReadAnswer → List ℕ → List ℕ → ReadOutcome
-read_with DeckRead d s = read_outcome (record { machine = machine_in d; answer = DeckRead }) (storage_in d (length s))
-read_with (DeckRefused x) d s = read_outcome (record { machine = zeroed; answer = DeckRefused x }) s
+read_with (Ok tt) d s = read_outcome (record { machine = machine_in d; answer = (Ok tt) }) (storage_in d (length s))
+read_with (Err x) d s = read_outcome (record { machine = zeroed; answer = Err x }) s
 
 unfoldable pub read_of : List ℕ → List ℕ → ReadOutcome
 read_of d s = read_with (deck_answer d (length s)) d s
@@ -164,10 +161,10 @@ write_of m s out =
     cond (size_allowed (length s))
     (cond (status_allowed m.status)
     (cond (leb (length (deck_of m s)) (length out))
-    (write_outcome (DeckWritten (length (deck_of m s))) (over out 0 (deck_of m s)))
-    (write_outcome (NotWritten OutputShort) out))
-    (write_outcome (NotWritten StatusNotWritable) out))
-    (write_outcome (NotWritten SizeNotAllowed) out)
+    (write_outcome (Ok (length (deck_of m s))) (over out 0 (deck_of m s)))
+    (write_outcome (Err OutputShort) out))
+    (write_outcome (Err StatusNotWritable) out))
+    (write_outcome (Err SizeNotAllowed) out)
 
 -- writing m and s into out gave r and left t
 abbrev pub WroteAs : Machine → List ℕ → List ℕ → WriteAnswer → List ℕ → Type 0

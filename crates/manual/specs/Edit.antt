@@ -1,11 +1,9 @@
 -- MVX, ED, ITC.
-use Rattle.std.specs.Prelude.{Bool, cond, ◌&&◌, List, [], ◌∷◌, ℕ, zero, suc, ◌+◌, ◌-◌, ◌*◌, ◌%◌, eqb, leb, get_or, drop}
+use Rattle.std.specs.Prelude.{Bool, cond, ◌&&◌, List, [], ◌∷◌, ℕ, zero, suc, ◌+◌, ◌-◌, ◌*◌, ◌%◌, eqb, leb, get_or, drop, Ok}
 use Rattle.manual.specs.declared.Fields.{Fields}
 use Rattle.manual.specs.declared.Register.TheVariants.{Arr}
-use Rattle.manual.specs.declared.Way.{Way}
-use Rattle.manual.specs.declared.Way.TheVariants.{Clear}
 use Rattle.manual.specs.Places.{mem, reg}
-use Rattle.manual.specs.Programs.{Prog, ret, rd, wr, ◌>>=◌, ◌>>◌, leftward, go, Rule, unless, and_then}
+use Rattle.manual.specs.Programs.{Prog, ret, rd, wr, ◌>>=◌, ◌>>◌, leftward, go, Rule, unless, and_then, Way}
 use Rattle.manual.specs.TheMachine.{set_order}
 use Rattle.manual.specs.Formats.{reach, reach_right}
 use Rattle.manual.specs.Values.{digit, zone, value, digits_of, sign_order}
@@ -39,7 +37,7 @@ count20 (p ∷ ps) = cond (takes_digit p) (suc (count20 ps)) (count20 ps)
 
 -- with none, operand 2 isn't read or checked
 unfoldable pub source_reach : ℕ → ℕ → ℕ → Way
-source_reach size n a = cond (eqb n 0) Clear (reach size n a)
+source_reach size n a = cond (eqb n 0) (Ok tt) (reach size n a)
 
 -- each byte 20 of the pattern, from the right, takes the next digit of operand 2 from the right with zone F
 unfoldable pub put_edited : List ℕ → List ℕ → ℕ → Prog (Unit {0})

@@ -1,17 +1,14 @@
 -- Addresses and lengths: what the left digit of an opcode gives, what the right digit names, which Q bytes an operation allows, and where an operand may lie.
-use Rattle.std.specs.Prelude.{ℕ, ◌+◌, ◌/◌, ◌%◌, Bool, true, cond, ◌&&◌, ◌||◌, List, [], ◌∷◌, get_or, eqb, leb, ltb}
+use Rattle.std.specs.Prelude.{ℕ, ◌+◌, ◌/◌, ◌%◌, Bool, true, cond, ◌&&◌, ◌||◌, List, [], ◌∷◌, get_or, eqb, leb, ltb, Ok, Err, Option, Some, None}
 use Rattle.manual.specs.declared.Operation.{Operation}
 use Rattle.manual.specs.declared.Operation.TheVariants.{Zaz, Az, Sz, Mvx, Ed, Itc, Mvc, Clc, Alc, Slc, St, L, A, S, Tbn, Tbf, Sbn, Sbf, Mvi, Cli, Sli, Bc, Jc, La, Svc}
-use Rattle.manual.specs.declared.Named.{Named}
-use Rattle.manual.specs.declared.Named.TheVariants.{Known, Unknown}
 use Rattle.manual.specs.declared.Base.{Base}
 use Rattle.manual.specs.declared.Base.TheVariants.{Absent, Direct, FromXr1, FromXr2, FromArr, Forward, Backward}
 use Rattle.manual.specs.declared.Group.{Group}
 use Rattle.manual.specs.declared.Group.TheVariants.{TwoAddress, OneAddress, Branch, Jump}
 use Rattle.manual.specs.declared.Form.{Form}
 use Rattle.manual.specs.declared.Stop.TheVariants.{OperandOutside}
-use Rattle.manual.specs.declared.Way.{Way}
-use Rattle.manual.specs.declared.Way.TheVariants.{Clear, Barred}
+use Rattle.manual.specs.Programs.{Way}
 
 -- ---- the left digit: its left two bits are operand 1's base, its right two operand 2's
 
@@ -48,37 +45,37 @@ form_of d =
 -- ---- the right digit
 
 -- 4 ZAZ, 6 AZ, 7 SZ, 8 MVX, A ED, B ITC, C MVC, D CLC, E ALC, F SLC
-abbrev pub two_address : List Named
+abbrev pub two_address : List (Option Operation)
 two_address =
-    Unknown ∷ Unknown ∷ Unknown ∷ Unknown
-    ∷ Known Zaz ∷ Unknown ∷ Known Az ∷ Known Sz
-    ∷ Known Mvx ∷ Unknown ∷ Known Ed ∷ Known Itc
-    ∷ Known Mvc ∷ Known Clc ∷ Known Alc ∷ Known Slc ∷ []
+    None ∷ None ∷ None ∷ None
+    ∷ Some Zaz ∷ None ∷ Some Az ∷ Some Sz
+    ∷ Some Mvx ∷ None ∷ Some Ed ∷ Some Itc
+    ∷ Some Mvc ∷ Some Clc ∷ Some Alc ∷ Some Slc ∷ []
 
 -- 4 ST, 5 L, 6 A, 7 S, 8 TBN, 9 TBF, A SBN, B SBF, C MVI, D CLI, F SLI
-abbrev pub one_address : List Named
+abbrev pub one_address : List (Option Operation)
 one_address =
-    Unknown ∷ Unknown ∷ Unknown ∷ Unknown
-    ∷ Known St ∷ Known L ∷ Known A ∷ Known S
-    ∷ Known Tbn ∷ Known Tbf ∷ Known Sbn ∷ Known Sbf
-    ∷ Known Mvi ∷ Known Cli ∷ Unknown ∷ Known Sli ∷ []
+    None ∷ None ∷ None ∷ None
+    ∷ Some St ∷ Some L ∷ Some A ∷ Some S
+    ∷ Some Tbn ∷ Some Tbf ∷ Some Sbn ∷ Some Sbf
+    ∷ Some Mvi ∷ Some Cli ∷ None ∷ Some Sli ∷ []
 
 -- 0 BC, 2 LA
-abbrev pub branches : List Named
-branches = Known Bc ∷ Unknown ∷ Known La ∷ []
+abbrev pub branches : List (Option Operation)
+branches = Some Bc ∷ None ∷ Some La ∷ []
 
 -- F0 BC, F1 and F2 JC, F4 SVC
-abbrev pub jumps : List Named
-jumps = Known Bc ∷ Known Jc ∷ Known Jc ∷ Unknown ∷ Known Svc ∷ []
+abbrev pub jumps : List (Option Operation)
+jumps = Some Bc ∷ Some Jc ∷ Some Jc ∷ None ∷ Some Svc ∷ []
 
-unfoldable pub named_of : Group → ℕ → Named
-named_of TwoAddress r = get_or two_address r Unknown
-named_of OneAddress r = get_or one_address r Unknown
-named_of Branch r = get_or branches r Unknown
-named_of Jump r = get_or jumps r Unknown
+unfoldable pub named_of : Group → ℕ → Option Operation
+named_of TwoAddress r = get_or two_address r None
+named_of OneAddress r = get_or one_address r None
+named_of Branch r = get_or branches r None
+named_of Jump r = get_or jumps r None
 
 -- the operation that an opcode names
-abbrev pub operation_of : ℕ → Named
+abbrev pub operation_of : ℕ → Option Operation
 operation_of opcode = named_of (form_of (opcode / 16)).group (opcode % 16)
 
 -- what byte 3 of F0, F1 and F2 counts from: ARR, backward and forward from the next instruction
@@ -138,8 +135,8 @@ allowed Svc q = true
 
 -- n bytes whose rightmost is at a: one that would pass below 0000 or reach the storage size stops with 7
 unfoldable pub reach : ℕ → ℕ → ℕ → Way
-reach size n a = cond (ltb a size && leb n (a + 1)) Clear (Barred OperandOutside)
+reach size n a = cond (ltb a size && leb n (a + 1)) (Ok tt) (Err OperandOutside)
 
 -- n bytes whose leftmost is at a
 unfoldable pub reach_right : ℕ → ℕ → ℕ → Way
-reach_right size n a = cond (leb (a + n) size) Clear (Barred OperandOutside)
+reach_right size n a = cond (leb (a + n) size) (Ok tt) (Err OperandOutside)

@@ -2,9 +2,8 @@
 use Rattle.std.specs.Prelude.{true, cond, ◌&&◌, ℕ, zero, suc, ◌+◌, ◌-◌, ◌/◌, ◌%◌, eqb, ltb}
 use Rattle.manual.specs.declared.Fields.{Fields}
 use Rattle.manual.specs.declared.Columns.{Columns}
-use Rattle.manual.specs.declared.Way.{Way}
 use Rattle.manual.specs.Places.{mem}
-use Rattle.manual.specs.Programs.{Prog, ret, rd, wr, ◌>>=◌, ◌>>◌, leftward, go, Rule, unless, and_then}
+use Rattle.manual.specs.Programs.{Prog, ret, rd, wr, ◌>>=◌, ◌>>◌, leftward, go, Rule, unless, and_then, Way}
 use Rattle.manual.specs.TheMachine.{equal, low, high, binary_overflow, turn_on, turn_off, set_order, order_of}
 use Rattle.manual.specs.Formats.{reach}
 use Rattle.manual.specs.Values.{number}

@@ -1,5 +1,5 @@
 -- Numbers that come back: the number of each answer in document 01's table, and the Q and R bytes, steps and length that come with it.
-use Rattle.std.specs.Prelude.{ℕ}
+use Rattle.std.specs.Prelude.{ℕ, Result, Ok, Err}
 use Rattle.manual.specs.declared.Refusal.{Refusal}
 use Rattle.manual.specs.declared.Refusal.TheVariants.{SizeRefused, BudgetRefused, StatusRefused}
 use Rattle.manual.specs.declared.Stop.{Stop}
@@ -9,12 +9,8 @@ use Rattle.manual.specs.declared.Answer.TheVariants.{Executed, Refused, Stopped}
 use Rattle.manual.specs.declared.Ended.{Ended}
 use Rattle.manual.specs.declared.DeckFault.{DeckFault}
 use Rattle.manual.specs.declared.DeckFault.TheVariants.{SizeNotTheDecks, StatusNotAllowed, EndsEarly, KindUnknown, OutOfOrder, PageBeyond, PageOfZeros, BytesAfterEnd}
-use Rattle.manual.specs.declared.ReadAnswer.{ReadAnswer}
-use Rattle.manual.specs.declared.ReadAnswer.TheVariants.{DeckRead, DeckRefused}
 use Rattle.manual.specs.declared.WriteFault.{WriteFault}
 use Rattle.manual.specs.declared.WriteFault.TheVariants.{SizeNotAllowed, StatusNotWritable, OutputShort}
-use Rattle.manual.specs.declared.WriteAnswer.{WriteAnswer}
-use Rattle.manual.specs.declared.WriteAnswer.TheVariants.{DeckWritten, NotWritten}
 
 -- what comes back from a step or a run
 pub record Told : Type 0 where
@@ -65,9 +61,17 @@ fault_number PageBeyond = 14
 fault_number PageOfZeros = 15
 fault_number BytesAfterEnd = 16
 
+-- what the reader answers: the deck is read, or why not
+abbrev pub ReadAnswer : Type 0
+ReadAnswer = Result (Unit {0}) DeckFault
+
 abbrev pub read_number : ReadAnswer → ℕ
-read_number DeckRead = 0
-read_number (DeckRefused x) = fault_number x
+read_number (Ok tt) = 0
+read_number (Err x) = fault_number x
+
+-- what the writer answers: the deck's length, or why it is not written
+abbrev pub WriteAnswer : Type 0
+WriteAnswer = Result ℕ WriteFault
 
 -- what comes back from the writer: its number, and the length written, 0 on refusal
 pub record WriteTold : Type 0 where
@@ -80,5 +84,5 @@ write_fault_number StatusNotWritable = 3
 write_fault_number OutputShort = 17
 
 abbrev pub write_told : WriteAnswer → WriteTold
-write_told (DeckWritten n) = record { number = 0; length = n }
-write_told (NotWritten x) = record { number = write_fault_number x; length = 0 }
+write_told (Ok n) = record { number = 0; length = n }
+write_told (Err x) = record { number = write_fault_number x; length = 0 }

@@ -1,8 +1,6 @@
 -- A rule is a program of reads and writes over places: what it gives, leaves, reads and writes. An overlap is the order of its reads and writes.
-use Rattle.std.specs.Prelude.{Bool, true, false, ◌||◌, List, [], ◌∷◌, ℕ, zero, suc, ◌+◌, ◌-◌}
+use Rattle.std.specs.Prelude.{Bool, true, false, ◌||◌, List, [], ◌∷◌, ℕ, zero, suc, ◌+◌, ◌-◌, Result, Ok, Err}
 use Rattle.manual.specs.declared.Stop.{Stop}
-use Rattle.manual.specs.declared.Way.{Way}
-use Rattle.manual.specs.declared.Way.TheVariants.{Clear, Barred}
 use Rattle.manual.specs.Places.{Place, mem, State, look, put, same}
 
 pub data Prog (A : Type 0) : Type 0 where
@@ -72,17 +70,20 @@ pub record Given : Type 0 where
 abbrev pub Rule : Type 0
 Rule = Given → Prog Out
 
--- nothing stands in the way
+-- what stands in an instruction's way: nothing, or a stop
+abbrev pub Way : Type 0
+Way = Result (Unit {0}) Stop
+
 abbrev pub clear : Way → Bool
-clear Clear = true
-clear (Barred x) = false
+clear (Ok tt) = true
+clear (Err x) = false
 
 -- the program, unless a stop stands in its way
 unfoldable pub unless : Way → Prog Out → Prog Out
-unless Clear p = p
-unless (Barred x) p = ret (stop x)
+unless (Ok tt) p = p
+unless (Err x) p = ret (stop x)
 
 -- the first of two that stands in the way
 unfoldable pub and_then : Way → Way → Way
-and_then Clear w = w
-and_then (Barred x) w = Barred x
+and_then (Ok tt) w = w
+and_then (Err x) w = Err x

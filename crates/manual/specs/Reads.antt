@@ -1,5 +1,5 @@
 -- What a step reads, and what it writes. A register is a place too: it is read as a base and by ST, A and S, and written by L, A, S, LA, ITC and BC.
-use Rattle.std.specs.Prelude.{Bool, true, false, cond, ◌||◌, List, [], ◌∷◌, ◌++◌, ℕ, zero, suc, ◌+◌, ◌-◌, ◌/◌, min, length, get_or, leb}
+use Rattle.std.specs.Prelude.{Bool, true, false, cond, ◌||◌, List, [], ◌∷◌, ◌++◌, ℕ, zero, suc, ◌+◌, ◌-◌, ◌/◌, min, length, get_or, leb, Ok, Err}
 use Rattle.manual.specs.declared.Machine.{Machine}
 use Rattle.manual.specs.declared.Register.TheVariants.{Arr, Xr1, Xr2}
 use Rattle.manual.specs.declared.Operation.{Operation}
@@ -8,12 +8,10 @@ use Rattle.manual.specs.declared.Base.{Base}
 use Rattle.manual.specs.declared.Base.TheVariants.{Absent, Direct, FromXr1, FromXr2, FromArr, Forward, Backward}
 use Rattle.manual.specs.declared.Fields.{Fields}
 use Rattle.manual.specs.declared.Stop.TheVariants.{CutShort, OpcodeUnknown, QRefused, OperandOutside, DigitRefused, Supervisor}
-use Rattle.manual.specs.declared.Decoded.{Decoded}
-use Rattle.manual.specs.declared.Decoded.TheVariants.{Found, NotFound}
 use Rattle.manual.specs.Places.{Place, mem, reg, same}
 use Rattle.manual.specs.Programs.{clear}
 use Rattle.manual.specs.Formats.{form_of}
-use Rattle.manual.specs.Decode.{decode_of}
+use Rattle.manual.specs.Decode.{decode_of, Decoded}
 use Rattle.manual.specs.Zoned.{l1, l2}
 use Rattle.manual.specs.Edit.{takes_digit, count20, ends_scan}
 use Rattle.manual.specs.Registers.{is_status, register_named}
@@ -155,13 +153,13 @@ base_reads Backward = []
 
 -- the instruction was wholly in storage and its opcode known: not after 5, nor 4
 abbrev pub whole : Decoded → Bool
-whole (Found i) = true
-whole (NotFound CutShort) = false
-whole (NotFound OpcodeUnknown) = false
-whole (NotFound QRefused) = true
-whole (NotFound OperandOutside) = true
-whole (NotFound DigitRefused) = true
-whole (NotFound (Supervisor q r)) = true
+whole (Ok i) = true
+whole (Err CutShort) = false
+whole (Err OpcodeUnknown) = false
+whole (Err QRefused) = true
+whole (Err OperandOutside) = true
+whole (Err DigitRefused) = true
+whole (Err (Supervisor q r)) = true
 
 -- with IAR outside storage: nothing. After 5, or 4 on later bytes: the opcode byte. Otherwise all instruction bytes
 unfoldable pub instruction_reads : List ℕ → ℕ → List Place
@@ -171,8 +169,8 @@ instruction_reads s iar =
 
 -- and operand bytes unless it stopped with 6 or 7
 abbrev pub further_reads : Machine → List ℕ → Decoded → List Place
-further_reads m s (NotFound x) = []
-further_reads m s (Found i) =
+further_reads m s (Err x) = []
+further_reads m s (Ok i) =
     base_reads i.first.base
     ++ (base_reads i.second.base
     ++ (register_reads i.operation (fields_of m i)
@@ -182,8 +180,8 @@ unfoldable pub reads_of : Machine → List ℕ → List Place
 reads_of m s = instruction_reads s m.iar ++ further_reads m s (decode_of s m.iar)
 
 abbrev pub further_writes : Machine → List ℕ → Decoded → List Place
-further_writes m s (NotFound x) = []
-further_writes m s (Found i) = when (clear (barred i.operation (fields_of m i) s)) (operand_writes i.operation (fields_of m i) s)
+further_writes m s (Err x) = []
+further_writes m s (Ok i) = when (clear (barred i.operation (fields_of m i) s)) (operand_writes i.operation (fields_of m i) s)
 
 unfoldable pub writes_of : Machine → List ℕ → List Place
 writes_of m s = further_writes m s (decode_of s m.iar)

@@ -1,9 +1,7 @@
 -- The deck runner: the line that it prints for the bytes on its standard input.
-use Rattle.std.specs.Prelude.{ℕ, zero, suc, ◌+◌, ◌*◌, ◌/◌, ◌%◌, Bool, cond, ◌||◌, List, [], ◌∷◌, ◌++◌, ltb, length, get_or, replicate}
+use Rattle.std.specs.Prelude.{ℕ, zero, suc, ◌+◌, ◌*◌, ◌/◌, ◌%◌, Bool, cond, ◌||◌, List, [], ◌∷◌, ◌++◌, ltb, length, get_or, replicate, Ok, Err}
 use Rattle.manual.specs.declared.Machine.{Machine}
-use Rattle.manual.specs.declared.ReadAnswer.{ReadAnswer}
-use Rattle.manual.specs.declared.ReadAnswer.TheVariants.{DeckRead, DeckRefused}
-use Rattle.manual.specs.Numbers.{Told, told, fault_number}
+use Rattle.manual.specs.Numbers.{Told, told, fault_number, ReadAnswer}
 use Rattle.manual.specs.Run.{RanOutcome, run_of}
 use Rattle.manual.specs.Deck.{page_size, ReadOutcome, read_of}
 
@@ -69,8 +67,8 @@ abbrev pub line_of_run : RanOutcome → List ℕ
 line_of_run o = run_line o.gave.machine (told o.gave.ended)
 
 abbrev pub read_line : ReadAnswer → ReadOutcome → List ℕ
-read_line DeckRead o = line_of_run (run_of o.gave.machine o.storage budget)
-read_line (DeckRefused x) o = number_line (fault_number x)
+read_line (Ok tt) o = line_of_run (run_of o.gave.machine o.storage budget)
+read_line (Err x) o = number_line (fault_number x)
 
 -- 18 is told before other refusals
 unfoldable pub line_of : List ℕ → List ℕ

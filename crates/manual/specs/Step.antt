@@ -1,5 +1,5 @@
 -- One step: what it answers, the machine and the storage after it.
-use Rattle.std.specs.Prelude.{◌≡◌, cond, List, ℕ, ◌+◌, ◌-◌, ◌%◌, length}
+use Rattle.std.specs.Prelude.{◌≡◌, cond, List, ℕ, ◌+◌, ◌-◌, ◌%◌, length, Ok, Err}
 use Rattle.std.proofs.Common.{ap, sym, ◌∙◌}
 use Rattle.manual.specs.declared.Machine.{Machine}
 use Rattle.manual.specs.declared.Register.TheVariants.{Arr, Xr1, Xr2}
@@ -12,13 +12,11 @@ use Rattle.manual.specs.declared.Fields.{Fields}
 use Rattle.manual.specs.declared.Answer.{Answer}
 use Rattle.manual.specs.declared.Answer.TheVariants.{Executed, Refused, Stopped}
 use Rattle.manual.specs.declared.Refusal.TheVariants.{SizeRefused, StatusRefused}
-use Rattle.manual.specs.declared.Decoded.{Decoded}
-use Rattle.manual.specs.declared.Decoded.TheVariants.{Found, NotFound}
 use Rattle.manual.specs.declared.Stepped.{Stepped}
 use Rattle.manual.specs.Places.{reg, State, state}
 use Rattle.manual.specs.Programs.{Prog, ret, rd, val, fin, ◌>>=◌, Out, stop, go, Given, Rule}
 use Rattle.manual.specs.TheMachine.{size_allowed, status_allowed}
-use Rattle.manual.specs.Decode.{fetch}
+use Rattle.manual.specs.Decode.{fetch, Decoded}
 use Rattle.manual.specs.Zoned.{zaz, az, sz}
 use Rattle.manual.specs.Edit.{mvx, ed, itc}
 use Rattle.manual.specs.Logical.{mvc, clc, alc, slc}
@@ -80,8 +78,8 @@ perform i g =
 
 -- the step goes on only with an instruction
 unfoldable pub follow : Decoded → Rule
-follow (Found i) g = perform i g
-follow (NotFound x) g = ret (stop x)
+follow (Ok i) g = perform i g
+follow (Err x) g = ret (stop x)
 
 unfoldable pub step : Rule
 step g = fetch g.size g.iar >>= λ d. follow d g

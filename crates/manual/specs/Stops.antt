@@ -1,5 +1,5 @@
 -- The order of the stops in a step: 4, 5, 4, 6 in decoding, then 7, 8, 9 as listed here. Each can be read without the programs.
-use Rattle.std.specs.Prelude.{List, ℕ, ◌+◌, ◌-◌, length}
+use Rattle.std.specs.Prelude.{List, ℕ, ◌+◌, ◌-◌, length, Ok, Err}
 use Rattle.manual.specs.declared.Machine.{Machine}
 use Rattle.manual.specs.declared.Operation.{Operation}
 use Rattle.manual.specs.declared.Operation.TheVariants.{Zaz, Az, Sz, Mvx, Ed, Itc, Mvc, Clc, Alc, Slc, St, L, A, S, Tbn, Tbf, Sbn, Sbf, Mvi, Cli, Sli, Bc, Jc, La, Svc}
@@ -8,13 +8,9 @@ use Rattle.manual.specs.declared.Base.TheVariants.{Absent, Direct, FromXr1, From
 use Rattle.manual.specs.declared.Instruction.{Instruction}
 use Rattle.manual.specs.declared.Fields.{Fields}
 use Rattle.manual.specs.declared.Stop.TheVariants.{Supervisor}
-use Rattle.manual.specs.declared.Way.{Way}
-use Rattle.manual.specs.declared.Way.TheVariants.{Clear, Barred}
-use Rattle.manual.specs.declared.Decoded.{Decoded}
-use Rattle.manual.specs.declared.Decoded.TheVariants.{Found, NotFound}
-use Rattle.manual.specs.Programs.{and_then}
+use Rattle.manual.specs.Programs.{and_then, Way}
 use Rattle.manual.specs.Formats.{reach, reach_right}
-use Rattle.manual.specs.Decode.{decode_of}
+use Rattle.manual.specs.Decode.{decode_of, Decoded}
 use Rattle.manual.specs.Values.{bytes_of, digits_of}
 use Rattle.manual.specs.Zoned.{l1, l2, zoned_reach}
 use Rattle.manual.specs.Edit.{count20, source_reach}
@@ -64,10 +60,10 @@ outside Sbf f size = reach size 1 f.a1
 outside Mvi f size = reach size 1 f.a1
 outside Cli f size = reach size 1 f.a1
 outside Sli f size = reach size 1 f.a1
-outside Bc f size = Clear
-outside Jc f size = Clear
-outside La f size = Clear
-outside Svc f size = Clear
+outside Bc f size = (Ok tt)
+outside Jc f size = (Ok tt)
+outside La f size = (Ok tt)
+outside Svc f size = (Ok tt)
 
 -- ED's operand 2, once the pattern is read
 abbrev pub source_outside : Fields → List ℕ → Way
@@ -91,28 +87,28 @@ unfoldable pub further : Operation → Fields → List ℕ → Way
 further Zaz f s = digits_of (zoned2 s f)
 further Az f s = and_then (digits_of (zoned2 s f)) (digits_of (zoned1 s f))
 further Sz f s = and_then (digits_of (zoned2 s f)) (digits_of (zoned1 s f))
-further Mvx f s = Clear
+further Mvx f s = (Ok tt)
 further Ed f s = and_then (source_outside f s) (digits_of (source_of s f))
-further Itc f s = Clear
-further Mvc f s = Clear
-further Clc f s = Clear
-further Alc f s = Clear
-further Slc f s = Clear
-further St f s = Clear
-further L f s = Clear
-further A f s = Clear
-further S f s = Clear
-further Tbn f s = Clear
-further Tbf f s = Clear
-further Sbn f s = Clear
-further Sbf f s = Clear
-further Mvi f s = Clear
-further Cli f s = Clear
-further Sli f s = Clear
-further Bc f s = Clear
-further Jc f s = Clear
-further La f s = Clear
-further Svc f s = Barred (Supervisor f.q f.r)
+further Itc f s = (Ok tt)
+further Mvc f s = (Ok tt)
+further Clc f s = (Ok tt)
+further Alc f s = (Ok tt)
+further Slc f s = (Ok tt)
+further St f s = (Ok tt)
+further L f s = (Ok tt)
+further A f s = (Ok tt)
+further S f s = (Ok tt)
+further Tbn f s = (Ok tt)
+further Tbf f s = (Ok tt)
+further Sbn f s = (Ok tt)
+further Sbf f s = (Ok tt)
+further Mvi f s = (Ok tt)
+further Cli f s = (Ok tt)
+further Sli f s = (Ok tt)
+further Bc f s = (Ok tt)
+further Jc f s = (Ok tt)
+further La f s = (Ok tt)
+further Svc f s = Err (Supervisor f.q f.r)
 
 -- what stops an operation, if anything
 abbrev pub barred : Operation → Fields → List ℕ → Way
@@ -120,8 +116,8 @@ barred op f s = and_then (outside op f (length s)) (further op f s)
 
 -- what stops a step, if anything
 abbrev pub barred_in : Machine → List ℕ → Decoded → Way
-barred_in m s (NotFound x) = Barred x
-barred_in m s (Found i) = barred i.operation (fields_of m i) s
+barred_in m s (Err x) = Err x
+barred_in m s (Ok i) = barred i.operation (fields_of m i) s
 
 unfoldable pub barred_at : Machine → List ℕ → Way
 barred_at m s = barred_in m s (decode_of s m.iar)

@@ -1,9 +1,8 @@
 -- The value of a field: of bytes as an unsigned number, of zoned bytes as a signed decimal number. A field is its bytes from the right.
-use Rattle.std.specs.Prelude.{ℕ, zero, suc, ◌+◌, ◌-◌, ◌*◌, ◌/◌, ◌%◌, ◌^◌, Bool, true, false, cond, not, ◌&&◌, List, [], ◌∷◌, eqb, leb, get_or, ℤ, pos, negsuc, neg_ℤ, nat_abs}
+use Rattle.std.specs.Prelude.{ℕ, zero, suc, ◌+◌, ◌-◌, ◌*◌, ◌/◌, ◌%◌, ◌^◌, Bool, true, false, cond, not, ◌&&◌, List, [], ◌∷◌, eqb, leb, get_or, ℤ, pos, negsuc, neg_ℤ, nat_abs, Ok, Err}
 use Rattle.manual.specs.declared.Stop.TheVariants.{DigitRefused}
-use Rattle.manual.specs.declared.Way.{Way}
-use Rattle.manual.specs.declared.Way.TheVariants.{Clear, Barred}
 use Rattle.manual.specs.TheMachine.{equal, low, high}
+use Rattle.manual.specs.Programs.{Way}
 
 -- n bytes of storage whose rightmost is at a, the rightmost first
 unfoldable pub bytes_of : List ℕ → ℕ → ℕ → List ℕ
@@ -46,7 +45,7 @@ all_digits [] = true
 all_digits (b ∷ bs) = leb (digit b) 9 && all_digits bs
 
 unfoldable pub digits_of : List ℕ → Way
-digits_of bs = cond (all_digits bs) Clear (Barred DigitRefused)
+digits_of bs = cond (all_digits bs) (Ok tt) (Err DigitRefused)
 
 -- ---- a signed number in a field of n bytes
 

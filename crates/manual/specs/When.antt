@@ -1,13 +1,10 @@
 -- When each number is given by a step and by a run, as tables for a host's programmer: a number is given exactly when its row holds.
-use Rattle.std.specs.Prelude.{◌≡◌, true, false, List, ℕ, zero, suc, ◌+◌, ◌-◌, ◌/◌, ◌≤◌, ◌<◌, length, get_or}
+use Rattle.std.specs.Prelude.{◌≡◌, true, false, List, ℕ, zero, suc, ◌+◌, ◌-◌, ◌/◌, ◌≤◌, ◌<◌, length, get_or, Ok, Err, Some, None}
 use Rattle.manual.specs.declared.Machine.{Machine}
 use Rattle.manual.specs.declared.Operation.{Operation}
 use Rattle.manual.specs.declared.Operation.TheVariants.{Svc}
-use Rattle.manual.specs.declared.Named.TheVariants.{Known, Unknown}
 use Rattle.manual.specs.declared.Instruction.{Instruction}
 use Rattle.manual.specs.declared.Stop.TheVariants.{OperandOutside, DigitRefused}
-use Rattle.manual.specs.declared.Way.TheVariants.{Clear, Barred}
-use Rattle.manual.specs.declared.Decoded.TheVariants.{Found}
 use Rattle.manual.specs.declared.Answer.TheVariants.{Executed}
 use Rattle.manual.specs.TheMachine.{size_allowed, budget_allowed, status_allowed}
 use Rattle.manual.specs.Numbers.{number_of}
@@ -30,20 +27,20 @@ length_at m s = (form_of (opcode_at m s / 16)).length
 -- the opcode at IAR names an operation, and the instruction is wholly in storage
 pub record Whole (m : Machine) (s : List ℕ) (op : Operation) : Type 0 where
   pub inside : m.iar < length s
-  pub named : operation_of (opcode_at m s) ≡ Known op
+  pub named : operation_of (opcode_at m s) ≡ Some op
   pub whole : length_at m s ≤ length s - m.iar
 
 pub data When (m : Machine) (s : List ℕ) : ℕ → Type 0 where
-  executed : (i : Instruction) → Taken m s → decode_of s m.iar ≡ Found i → barred i.operation (fields_of m i) s ≡ Clear → When m s 0
+  executed : (i : Instruction) → Taken m s → decode_of s m.iar ≡ Ok i → barred i.operation (fields_of m i) s ≡ Ok tt → When m s 0
   size_refused : size_allowed (length s) ≡ false → When m s 1
   status_refused : size_allowed (length s) ≡ true → status_allowed m.status ≡ false → When m s 3
   past_storage : Taken m s → length s ≤ m.iar → When m s 4
-  cut_short : (op : Operation) → Taken m s → m.iar < length s → operation_of (opcode_at m s) ≡ Known op → length s - m.iar < length_at m s → When m s 4
-  opcode_unknown : Taken m s → m.iar < length s → operation_of (opcode_at m s) ≡ Unknown → When m s 5
+  cut_short : (op : Operation) → Taken m s → m.iar < length s → operation_of (opcode_at m s) ≡ Some op → length s - m.iar < length_at m s → When m s 4
+  opcode_unknown : Taken m s → m.iar < length s → operation_of (opcode_at m s) ≡ None → When m s 5
   q_refused : (op : Operation) → Taken m s → Whole m s op → allowed op (get_or s (m.iar + 1) 0) ≡ false → When m s 6
-  outside : (i : Instruction) → Taken m s → decode_of s m.iar ≡ Found i → barred i.operation (fields_of m i) s ≡ Barred OperandOutside → When m s 7
-  bad_digit : (i : Instruction) → Taken m s → decode_of s m.iar ≡ Found i → barred i.operation (fields_of m i) s ≡ Barred DigitRefused → When m s 8
-  called : (i : Instruction) → Taken m s → decode_of s m.iar ≡ Found i → i.operation ≡ Svc → When m s 9
+  outside : (i : Instruction) → Taken m s → decode_of s m.iar ≡ Ok i → barred i.operation (fields_of m i) s ≡ Err OperandOutside → When m s 7
+  bad_digit : (i : Instruction) → Taken m s → decode_of s m.iar ≡ Ok i → barred i.operation (fields_of m i) s ≡ Err DigitRefused → When m s 8
+  called : (i : Instruction) → Taken m s → decode_of s m.iar ≡ Ok i → i.operation ≡ Svc → When m s 9
 
 -- ---- the run
 

@@ -1,9 +1,8 @@
 -- ZAZ, AZ, SZ.
 use Rattle.std.specs.Prelude.{Bool, cond, ℕ, zero, suc, ◌+◌, ◌-◌, ◌/◌, ◌%◌, ℤ, ◌+ℤ◌, ◌-ℤ◌}
 use Rattle.manual.specs.declared.Fields.{Fields}
-use Rattle.manual.specs.declared.Way.{Way}
 use Rattle.manual.specs.Places.{mem}
-use Rattle.manual.specs.Programs.{Prog, ret, wr, ◌>>=◌, ◌>>◌, leftward, go, Rule, unless, and_then}
+use Rattle.manual.specs.Programs.{Prog, ret, wr, ◌>>=◌, ◌>>◌, leftward, go, Rule, unless, and_then, Way}
 use Rattle.manual.specs.TheMachine.{decimal_overflow, turn_on, set_order}
 use Rattle.manual.specs.Formats.{reach}
 use Rattle.manual.specs.Values.{value, digits_of, cut, overflows, left_minus, cut_to, sign_order}

@@ -3,7 +3,7 @@
 #![tactic(auto)]
 
 #[repr(C)]
-#[derive(Clone, Copy)]
+#[derive(Clone, Copy, Debug, PartialEq, Eq, Default)]
 pub struct Machine {
     pub iar: u16,
     pub arr: u16,
@@ -15,7 +15,7 @@ pub struct Machine {
 }
 
 // The registers that instructions read and write by name; Work(i) is WR(4 + i).
-#[derive(Clone, Copy)]
+#[derive(Clone, Copy, Debug, PartialEq, Eq)]
 pub enum Register {
     Arr,
     Xr1,
@@ -26,7 +26,7 @@ pub enum Register {
 // ---- answers of step and run; specs/Numbers has each one's number
 
 // Why a call of step or run is refused at entry.
-#[derive(Clone, Copy)]
+#[derive(Clone, Copy, Debug, PartialEq, Eq)]
 pub enum Refusal {
     SizeRefused,
     BudgetRefused,
@@ -34,7 +34,7 @@ pub enum Refusal {
 }
 
 // Why an instruction stops.
-#[derive(Clone, Copy)]
+#[derive(Clone, Copy, Debug, PartialEq, Eq)]
 pub enum Stop {
     CutShort,
     OpcodeUnknown,
@@ -45,34 +45,27 @@ pub enum Stop {
     Supervisor(u8, u8),
 }
 
-// What stands in an instruction's way: nothing, or a stop.
-#[derive(Clone, Copy)]
-pub enum Way {
-    Clear,
-    Barred(Stop),
-}
-
-#[derive(Clone, Copy)]
+#[derive(Clone, Copy, Debug, PartialEq, Eq)]
 pub enum Answer {
     Executed,
     Refused(Refusal),
     Stopped(Stop),
 }
 
-#[derive(Clone, Copy)]
+#[derive(Clone, Copy, Debug, PartialEq, Eq)]
 pub struct Stepped {
     pub machine: Machine,
     pub answer: Answer,
 }
 
 // How a run ended, and its count of executed steps.
-#[derive(Clone, Copy)]
+#[derive(Clone, Copy, Debug, PartialEq, Eq)]
 pub struct Ended {
     pub answer: Answer,
     pub steps: u32,
 }
 
-#[derive(Clone, Copy)]
+#[derive(Clone, Copy, Debug, PartialEq, Eq)]
 pub struct Ran {
     pub machine: Machine,
     pub ended: Ended,
@@ -80,7 +73,7 @@ pub struct Ran {
 
 // ---- instructions
 
-#[derive(Clone, Copy)]
+#[derive(Clone, Copy, Debug, PartialEq, Eq)]
 pub enum Operation {
     Zaz,
     Az,
@@ -109,14 +102,8 @@ pub enum Operation {
     Svc,
 }
 
-#[derive(Clone, Copy)]
-pub enum Named {
-    Known(Operation),
-    Unknown,
-}
-
 // What an address is reckoned from.
-#[derive(Clone, Copy)]
+#[derive(Clone, Copy, Debug, PartialEq, Eq)]
 pub enum Base {
     Absent,
     Direct,
@@ -128,7 +115,7 @@ pub enum Base {
 }
 
 // Which opcodes a left digit has.
-#[derive(Clone, Copy)]
+#[derive(Clone, Copy, Debug, PartialEq, Eq)]
 pub enum Group {
     TwoAddress,
     OneAddress,
@@ -137,7 +124,7 @@ pub enum Group {
 }
 
 // What the left digit of an opcode gives.
-#[derive(Clone, Copy)]
+#[derive(Clone, Copy, Debug, PartialEq, Eq)]
 pub struct Form {
     pub length: u8,
     pub first: Base,
@@ -146,14 +133,14 @@ pub struct Form {
 }
 
 // An operand as it stands in the instruction: its base, and the address or displacement.
-#[derive(Clone, Copy)]
+#[derive(Clone, Copy, Debug, PartialEq, Eq)]
 pub struct Operand {
     pub base: Base,
     pub number: u16,
 }
 
 // An instruction as its bytes say it; next is the address after it.
-#[derive(Clone, Copy)]
+#[derive(Clone, Copy, Debug, PartialEq, Eq)]
 pub struct Instruction {
     pub operation: Operation,
     pub q: u8,
@@ -163,14 +150,8 @@ pub struct Instruction {
     pub next: u16,
 }
 
-#[derive(Clone, Copy)]
-pub enum Decoded {
-    Found(Instruction),
-    NotFound(Stop),
-}
-
 // An instruction with the addresses of its operands: what a rule and a leaf see.
-#[derive(Clone, Copy)]
+#[derive(Clone, Copy, Debug, PartialEq, Eq)]
 pub struct Fields {
     pub q: u8,
     pub r: u8,
@@ -180,7 +161,7 @@ pub struct Fields {
 }
 
 // What ALC and SLC carry from column to column: the carry or borrow, and whether every result byte so far is zero.
-#[derive(Clone, Copy)]
+#[derive(Clone, Copy, Debug, PartialEq, Eq)]
 pub struct Columns {
     pub over: usize,
     pub clear: bool,
@@ -189,7 +170,7 @@ pub struct Columns {
 // ---- answers of the deck reader and writer
 
 // Why a deck is not read.
-#[derive(Clone, Copy)]
+#[derive(Clone, Copy, Debug, PartialEq, Eq)]
 pub enum DeckFault {
     SizeNotTheDecks,
     StatusNotAllowed,
@@ -201,29 +182,16 @@ pub enum DeckFault {
     BytesAfterEnd,
 }
 
-#[derive(Clone, Copy)]
-pub enum ReadAnswer {
-    DeckRead,
-    DeckRefused(DeckFault),
-}
-
-#[derive(Clone, Copy)]
+#[derive(Clone, Copy, Debug, PartialEq, Eq)]
 pub struct DeckOut {
     pub machine: Machine,
-    pub answer: ReadAnswer,
+    pub answer: Result<(), DeckFault>,
 }
 
 // Why a deck is not written.
-#[derive(Clone, Copy)]
+#[derive(Clone, Copy, Debug, PartialEq, Eq)]
 pub enum WriteFault {
     SizeNotAllowed,
     StatusNotWritable,
     OutputShort,
-}
-
-#[derive(Clone, Copy)]
-pub enum WriteAnswer {
-    // the deck's length
-    DeckWritten(usize),
-    NotWritten(WriteFault),
 }
