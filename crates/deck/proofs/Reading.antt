@@ -1,5 +1,6 @@
 -- The tests of a record as the code makes them, and the invariants of the reader's two passes: what is left of the deck gives the whole.
 -- What carries it: one record and then more (`asked_more`, `first_more`, `later_more`).
+use Rattle.std.specs.Prelude.{Ok, Err}
 use Prim.Native.Nat.{ℕ, suc, ◌+◌, ◌≤◌, ◌<◌, ◌-◌, ◌*◌, ◌/◌, pred}
 use mathlib.Core.Bool.{Bool, true, false, cond, not, beq}
 use mathlib.Core.List.{List}
@@ -13,12 +14,11 @@ use lib.ListN.{length, get_or, take, drop, length-drop}
 use lib.Seq.{length-take-le, drop-drop, take_all, get_or-drop}
 use Rattle.manual.specs.declared.DeckFault.{DeckFault}
 use Rattle.manual.specs.declared.DeckFault.TheVariants.{SizeNotTheDecks, StatusNotAllowed, EndsEarly, KindUnknown, OutOfOrder, BytesAfterEnd}
-use Rattle.manual.specs.declared.ReadAnswer.{ReadAnswer}
-use Rattle.manual.specs.declared.ReadAnswer.TheVariants.{DeckRead, DeckRefused}
 use Rattle.manual.specs.TheMachine.{status_allowed}
 use Rattle.manual.specs.Deck.{record_length, provided, record_answer, first_answer, page_answer, later_answer, deck_answer, over, paged}
 use Rattle.manual.proofs.Pages.{length_over}
 use Rattle.manual.proofs.DeckRecords.{asked, asked_good, asked_more, and_more, first_more, PageAt, EndAt, later_record, later_is, later_at, later_more, accepted, PageThen, later_cases}
+use Rattle.manual.specs.Numbers.{ReadAnswer}
 
 -- ---- the tests of a record
 
@@ -34,79 +34,79 @@ module _ (d : List ℕ) (first : Bool) where
   abbrev order : Bool
   order = cond first (eqb (get_or d 0 0) 1) (not (eqb (get_or d 0 0) 1))
 
-  pub asked_none : length d ≡ 0 → DeckRefused EndsEarly ≡ record_answer order d DeckRead
+  pub asked_none : length d ≡ 0 → Err EndsEarly ≡ record_answer order d (Ok tt)
   asked_none e = rw e
 
   module _ (some : length d ≡ 0 → ⊥) where
     some_left : ltb 0 (length d) ≡ true
     some_left = lt-ltb 0 (length d) (omega arith)
 
-    pub asked_low : get_or d 0 0 < 1 → DeckRefused KindUnknown ≡ record_answer order d DeckRead
+    pub asked_low : get_or d 0 0 < 1 → Err KindUnknown ≡ record_answer order d (Ok tt)
     asked_low h = simp (some_left, lt-leb _ _ h)
 
     module _ (low : 1 ≤ get_or d 0 0) where
-      pub asked_high : 3 < get_or d 0 0 → DeckRefused KindUnknown ≡ record_answer order d DeckRead
+      pub asked_high : 3 < get_or d 0 0 → Err KindUnknown ≡ record_answer order d (Ok tt)
       asked_high h = simp (some_left, le-leb _ _ low, lt-leb _ _ h)
 
       module _ (high : get_or d 0 0 ≤ 3) where
-        pub asked_order : not (beq (eqb (get_or d 0 0) 1) first) ≡ true → DeckRefused OutOfOrder ≡ record_answer order d DeckRead
+        pub asked_order : not (beq (eqb (get_or d 0 0) 1) first) ≡ true → Err OutOfOrder ≡ record_answer order d (Ok tt)
         asked_order h = simp (some_left, le-leb _ _ low, le-leb _ _ high, in_order (eqb (get_or d 0 0) 1) first ∙ not-true _ h)
 
         module _ (kept : not (beq (eqb (get_or d 0 0) 1) first) ≡ false) where
           in_its_order : order ≡ true
           in_its_order = in_order (eqb (get_or d 0 0) 1) first ∙ not-false _ kept
 
-          pub asked_short : length d < record_length (get_or d 0 0) → DeckRefused EndsEarly ≡ record_answer order d DeckRead
+          pub asked_short : length d < record_length (get_or d 0 0) → Err EndsEarly ≡ record_answer order d (Ok tt)
           asked_short h = simp (some_left, le-leb _ _ low, le-leb _ _ high, in_its_order, lt-leb _ _ h)
 
-          pub asked_whole : record_length (get_or d 0 0) ≤ length d → DeckRead ≡ record_answer order d DeckRead
+          pub asked_whole : record_length (get_or d 0 0) ≤ length d → (Ok tt) ≡ record_answer order d (Ok tt)
           asked_whole h = simp (some_left, le-leb _ _ low, le-leb _ _ high, in_its_order, le-leb _ _ h)
 
 -- what a record is asked, and then more
 module _ (b : Bool) (d : List ℕ) (more : ReadAnswer) where
-  asked_open : record_answer b d DeckRead ≡ DeckRead → record_answer b d more ≡ more
-  asked_open e = asked_good b d more (asked b d DeckRead e).0
+  asked_open : record_answer b d (Ok tt) ≡ Ok tt → record_answer b d more ≡ more
+  asked_open e = asked_good b d more (asked b d (Ok tt) e).0
 
-  asked_shut : (x : DeckFault) → record_answer b d DeckRead ≡ DeckRefused x → record_answer b d more ≡ DeckRefused x
+  asked_shut : (x : DeckFault) → record_answer b d (Ok tt) ≡ Err x → record_answer b d more ≡ Err x
   asked_shut x e = asked_more b d more ∙ ap (λ (a : ReadAnswer). and_more a more) e
 
 module _ (d : List ℕ) (size : ℕ) where
-  pub first_open : record_answer (eqb (get_or d 0 0) 1) d DeckRead ≡ DeckRead
-      → first_answer d size DeckRead ≡ provided (status_allowed (get_or d 18 0)) StatusNotAllowed (provided (eqb ((get_or d 1 0 + 1) * 256) size) SizeNotTheDecks DeckRead)
+  pub first_open : record_answer (eqb (get_or d 0 0) 1) d (Ok tt) ≡ Ok tt
+      → first_answer d size (Ok tt) ≡ provided (status_allowed (get_or d 18 0)) StatusNotAllowed (provided (eqb ((get_or d 1 0 + 1) * 256) size) SizeNotTheDecks (Ok tt))
   unfolding first_answer
   first_open e = asked_open (eqb (get_or d 0 0) 1) d _ e
 
-  pub first_shut : (x : DeckFault) → record_answer (eqb (get_or d 0 0) 1) d DeckRead ≡ DeckRefused x → first_answer d size DeckRead ≡ DeckRefused x
+  pub first_shut : (x : DeckFault) → record_answer (eqb (get_or d 0 0) 1) d (Ok tt) ≡ Err x → first_answer d size (Ok tt) ≡ Err x
   unfolding first_answer
   first_shut x e = asked_shut (eqb (get_or d 0 0) 1) d _ x e
 
-pub first_whole : (d : List ℕ) → record_answer (eqb (get_or d 0 0) 1) d DeckRead ≡ DeckRead → 19 ≤ length d
-first_whole d e = let a = (asked (eqb (get_or d 0 0) 1) d DeckRead e).0 in rw a.order at a.whole
+pub first_whole : (d : List ℕ) → record_answer (eqb (get_or d 0 0) 1) d (Ok tt) ≡ Ok tt → 19 ≤ length d
+first_whole d e = let a = (asked (eqb (get_or d 0 0) 1) d (Ok tt) e).0 in rw a.order at a.whole
 
 module _ (d : List ℕ) (pages next : ℕ) where
-  pub later_open : record_answer (not (eqb (get_or d 0 0) 1)) d DeckRead ≡ DeckRead
-      → later_record d pages next DeckRead ≡ cond (eqb (get_or d 0 0) 2) (page_answer d pages next DeckRead) (provided (eqb (length d) 1) BytesAfterEnd DeckRead)
+  pub later_open : record_answer (not (eqb (get_or d 0 0) 1)) d (Ok tt) ≡ Ok tt
+      → later_record d pages next (Ok tt) ≡ cond (eqb (get_or d 0 0) 2) (page_answer d pages next (Ok tt)) (provided (eqb (length d) 1) BytesAfterEnd (Ok tt))
   unfolding later_record
   later_open e = asked_open (not (eqb (get_or d 0 0) 1)) d _ e
 
-  pub later_shut : (x : DeckFault) → record_answer (not (eqb (get_or d 0 0) 1)) d DeckRead ≡ DeckRefused x → later_record d pages next DeckRead ≡ DeckRefused x
+  pub later_shut : (x : DeckFault) → record_answer (not (eqb (get_or d 0 0) 1)) d (Ok tt) ≡ Err x → later_record d pages next (Ok tt) ≡ Err x
   unfolding later_record
   later_shut x e = asked_shut (not (eqb (get_or d 0 0) 1)) d _ x e
 
-pub later_some : (d : List ℕ) → record_answer (not (eqb (get_or d 0 0) 1)) d DeckRead ≡ DeckRead → 0 < length d
-later_some d e = (asked (not (eqb (get_or d 0 0) 1)) d DeckRead e).0.some
+pub later_some : (d : List ℕ) → record_answer (not (eqb (get_or d 0 0) 1)) d (Ok tt) ≡ Ok tt → 0 < length d
+later_some d e = (asked (not (eqb (get_or d 0 0) 1)) d (Ok tt) e).0.some
 
-pub later_whole : (d : List ℕ) → record_answer (not (eqb (get_or d 0 0) 1)) d DeckRead ≡ DeckRead → get_or d 0 0 ≡ 2 → 258 ≤ length d
-later_whole d e k = rw k at (asked (not (eqb (get_or d 0 0) 1)) d DeckRead e).0.whole
+pub later_whole : (d : List ℕ) → record_answer (not (eqb (get_or d 0 0) 1)) d (Ok tt) ≡ Ok tt → get_or d 0 0 ≡ 2 → 258 ≤ length d
+later_whole d e k = rw k at (asked (not (eqb (get_or d 0 0) 1)) d (Ok tt) e).0.whole
 
 -- ---- the first record, and then the rest
 
 module _ (d : List ℕ) (size : ℕ) where
-  pub deck_refused : (x : DeckFault) → first_answer d size DeckRead ≡ DeckRefused x → deck_answer d size ≡ DeckRefused x
+  pub deck_refused : (x : DeckFault) → first_answer d size (Ok tt) ≡ Err x → deck_answer d size ≡ Err x
   unfolding deck_answer
   deck_refused x e = first_more d size _ ∙ (rw e)
 
-  pub deck_rest : first_answer d size DeckRead ≡ DeckRead → deck_answer d size ≡ later_answer (length d) (drop 19 d) (size / 256) 0
+  pub deck_rest : first_answer d size (Ok tt) ≡ Ok tt → deck_answer d size ≡ later_answer (length d) (drop 19 d) (size / 256) 0
   unfolding deck_answer
   deck_rest e = first_more d size _ ∙ (rw e)
 
@@ -128,28 +128,28 @@ reading_starts deck pages h = record { turns = length deck; inside = h; enough =
 
 module _ {deck : List ℕ} {pages at next : ℕ} {whole : ReadAnswer} (l : Reading deck pages at next whole) where
   -- the record at the place, and what comes after a page
-  here : whole ≡ and_more (later_record (drop at deck) pages next DeckRead)
-      (cond (eqb (get_or (drop at deck) 0 0) 0x02) (later_answer (pred l.turns) (drop 258 (drop at deck)) pages (get_or (drop at deck) 1 0 + 1)) DeckRead)
+  here : whole ≡ and_more (later_record (drop at deck) pages next (Ok tt))
+      (cond (eqb (get_or (drop at deck) 0 0) 0x02) (later_answer (pred l.turns) (drop 258 (drop at deck)) pages (get_or (drop at deck) 1 0 + 1)) (Ok tt))
   here =
       let z : l.turns ≡ suc (pred l.turns) = omega (arith, l.inside, l.enough) in
       l.gives ∙ ap (λ (n : ℕ). later_answer n (drop at deck) pages next) z
       ∙ later_is (pred l.turns) (drop at deck) pages next
       ∙ later_more (drop at deck) pages next _
 
-  pub reading_refused : (x : DeckFault) → later_record (drop at deck) pages next DeckRead ≡ DeckRefused x → whole ≡ DeckRefused x
+  pub reading_refused : (x : DeckFault) → later_record (drop at deck) pages next (Ok tt) ≡ Err x → whole ≡ Err x
   reading_refused x e = here ∙ (rw e)
 
   -- a record that is not refused
-  module _ (e : later_record (drop at deck) pages next DeckRead ≡ DeckRead) where
-    cases : (PageAt (drop at deck) pages next × (DeckRead ≡ DeckRead)) ⊎ EndAt (drop at deck)
-    cases = later_at (drop at deck) pages next DeckRead e
+  module _ (e : later_record (drop at deck) pages next (Ok tt) ≡ Ok tt) where
+    cases : (PageAt (drop at deck) pages next × ((Ok tt) ≡ Ok tt)) ⊎ EndAt (drop at deck)
+    cases = later_at (drop at deck) pages next (Ok tt) e
 
     pub reading_in : at < length deck
     reading_in =
         let h = l.inside in
         ⊎_elim (λ w. omega (arith, simp length-drop at w.0.whole)) (λ w. omega (arith, simp length-drop at w.last)) cases
 
-    pub reading_end : (get_or deck at 0 ≡ 2 → ⊥) → whole ≡ DeckRead
+    pub reading_end : (get_or deck at 0 ≡ 2 → ⊥) → whole ≡ Ok tt
     reading_end k = here ∙ (rw (e, get_or-drop, add-zero, ne_eqb (get_or deck at 0) 2 k))
 
     module _ (k : get_or deck at 0 ≡ 2) where
@@ -180,10 +180,10 @@ pub record Laying (deck : List ℕ) (at : ℕ) (s whole : List ℕ) : Type 0 whe
   pub next : ℕ
   pub inside : at ≤ length deck
   pub enough : length deck < at + turns
-  pub good : later_answer turns (drop at deck) (length s / 256) next ≡ DeckRead
+  pub good : later_answer turns (drop at deck) (length s / 256) next ≡ Ok tt
   pub gives : whole ≡ paged turns (drop at deck) s
 
-pub laying_starts : (deck s : List ℕ) → deck_answer deck (length s) ≡ DeckRead → Laying deck 19 s (paged (length deck) (drop 19 deck) s)
+pub laying_starts : (deck s : List ℕ) → deck_answer deck (length s) ≡ Ok tt → Laying deck 19 s (paged (length deck) (drop 19 deck) s)
 laying_starts deck s e =
     let a = accepted deck (length s) e in
     record {

@@ -10,7 +10,7 @@ ghost use Rattle.std.specs.Prelude.{◌≡◌, cond, length};
 ghost use Rattle.manual.specs.TheMachine.{size_allowed};
 ghost use Rattle.manual.specs.Deck.{ReadAs, WroteAs, deck_of};
 
-use manual::{DeckOut, Machine, ReadAnswer, WriteAnswer, WriteFault};
+use manual::{DeckFault, DeckOut, Machine, WriteFault};
 
 // Reads a deck into the storage `s`. A refusal returns a zeroed machine and leaves the storage: the deck is checked whole before anything is stored.
 #[tactic(auto, unfolding(manual::specs::Deck::read_of, manual::specs::Deck::storage_in), using(manual::proofs::DeckRecords::accepted))]
@@ -18,20 +18,20 @@ pub fn read(deck: &[u8], s: &mut [u8]) -> DeckOut
     ensures { ReadAs deck.now s.old result s.new }
 {
     match reader::verdict(deck, s.len()) {
-        ReadAnswer::DeckRefused(fault) => {
+        Err(fault) => {
             let machine = format::zeroed();
             DeckOut {
                 machine,
-                answer: ReadAnswer::DeckRefused(fault),
+                answer: Err(fault),
             }
         }
-        ReadAnswer::DeckRead => {
+        Ok(()) => {
             bytes::clear(s);
             reader::lay_pages(deck, s);
             let machine = format::machine_in(deck);
             DeckOut {
                 machine,
-                answer: ReadAnswer::DeckRead,
+                answer: Ok(()),
             }
         }
     }
@@ -39,21 +39,21 @@ pub fn read(deck: &[u8], s: &mut [u8]) -> DeckOut
 
 // Writes the deck of a machine and its storage to the front of `out`. A refusal leaves the output.
 #[tactic(auto, unfolding(manual::specs::Deck::write_of, manual::specs::TheMachine::status_allowed), using(manual::proofs::Decks::length_parts))]
-pub fn write(m: Machine, s: &[u8], out: &mut [u8]) -> WriteAnswer
+pub fn write(m: Machine, s: &[u8], out: &mut [u8]) -> Result<usize, WriteFault>
     ensures { WroteAs m s.now out.old result out.new }
 {
     if !parts::size_allowed(s.len()) {
-        return WriteAnswer::NotWritten(WriteFault::SizeNotAllowed);
+        return Err(WriteFault::SizeNotAllowed);
     }
     if 64 <= m.status {
-        return WriteAnswer::NotWritten(WriteFault::StatusNotWritable);
+        return Err(WriteFault::StatusNotWritable);
     }
     let n = writer::deck_length(s);
     if out.len() < n {
-        return WriteAnswer::NotWritten(WriteFault::OutputShort);
+        return Err(WriteFault::OutputShort);
     }
     writer::write_deck(m, s, out);
-    WriteAnswer::DeckWritten(n)
+    Ok(n)
 }
 
 // The room that the deck of a machine and its storage needs; 0 where the size isn't allowed.

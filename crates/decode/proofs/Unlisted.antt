@@ -1,41 +1,41 @@
 -- The opcodes that the decoder doesn't name one by one: of two addresses, or naming nothing.
+use Rattle.std.specs.Prelude.{Option, Some, None}
 use mathlib.Core.Path.{◌≡◌, refl}
 use mathlib.Core.Bool.{true, false, true≢false}
 use mathlib.Core.List.{List, [], ◌∷◌}
 use Prim.Native.Nat.{ℕ, ◌/◌, ◌%◌, ◌<◌}
 use lib.Dec.{T}
 use lib.ListN.{get_or}
-use Rattle.manual.specs.declared.Named.{Named}
-use Rattle.manual.specs.declared.Named.TheVariants.{Known, Unknown}
 use Rattle.manual.specs.declared.Group.{Group}
 use Rattle.manual.specs.declared.Group.TheVariants.{TwoAddress, OneAddress, Branch, Jump}
 use Rattle.manual.specs.Formats.{two_address, form_of, named_of, operation_of}
 use Rattle.decode.specs.Fetching.{is_unknown, is_pair_or, unlisted}
 use Rattle.decode.proofs.Rest.{Rest, Passed, by_rest}
+use Rattle.manual.specs.declared.Operation.{Operation}
 
-is_unknown_lem : (n : Named) → T (is_unknown n) → n ≡ Unknown
-is_unknown_lem Unknown t = refl
-is_unknown_lem (Known op) t = absurd t
+is_unknown_lem : (n : Option Operation) → T (is_unknown n) → n ≡ None
+is_unknown_lem None t = refl
+is_unknown_lem (Some op) t = absurd t
 
-nothing : (g : Group) (n : Named) → T (is_pair_or g (is_unknown n)) → is_pair_or g false ≡ false → n ≡ Unknown
+nothing : (g : Group) (n : Option Operation) → T (is_pair_or g (is_unknown n)) → is_pair_or g false ≡ false → n ≡ None
 nothing TwoAddress n t h = absurd (true≢false h)
 nothing OneAddress n t h = is_unknown_lem n t
 nothing Branch n t h = is_unknown_lem n t
 nothing Jump n t h = is_unknown_lem n t
 
 -- a form of another group than the two addresses' names nothing here
-pub names_nothing : (o : ℕ) → T (unlisted o) → is_pair_or (form_of (o / 16)).group false ≡ false → operation_of o ≡ Unknown
+pub names_nothing : (o : ℕ) → T (unlisted o) → is_pair_or (form_of (o / 16)).group false ≡ false → operation_of o ≡ None
 unfolding unlisted
 names_nothing o t h = nothing (form_of (o / 16)).group (operation_of o) t h
 
-unpaired : (g : Group) (r : ℕ) → T (is_pair_or g (is_unknown (named_of g r))) → get_or two_address r Unknown ≡ Unknown → named_of g r ≡ Unknown
+unpaired : (g : Group) (r : ℕ) → T (is_pair_or g (is_unknown (named_of g r))) → get_or two_address r None ≡ None → named_of g r ≡ None
 unpaired TwoAddress r t h = unfold named_of in h
 unpaired OneAddress r t h = is_unknown_lem (named_of OneAddress r) t
 unpaired Branch r t h = is_unknown_lem (named_of Branch r) t
 unpaired Jump r t h = is_unknown_lem (named_of Jump r) t
 
 -- nor does a right digit that names no pair
-pub no_pair : (o : ℕ) → T (unlisted o) → get_or two_address (o % 16) Unknown ≡ Unknown → operation_of o ≡ Unknown
+pub no_pair : (o : ℕ) → T (unlisted o) → get_or two_address (o % 16) None ≡ None → operation_of o ≡ None
 unfolding unlisted
 no_pair o t h = unpaired (form_of (o / 16)).group (o % 16) t h
 

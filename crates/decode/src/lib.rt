@@ -3,14 +3,14 @@
 
 ghost use Rattle.std.specs.Prelude.{◌≡◌, ℕ, true, ◌+◌, ◌/◌, ◌%◌, ◌<◌, ◌≤◌, T, length, get_or};
 ghost use Rattle.manual.specs.Formats.{form_of, width_of, allowed, first_base, is_index_or_work, is_sum_register, is_register, two_address, operation_of};
-ghost use Rattle.manual.specs.declared.Named.TheVariants.{Known, Unknown};
+ghost use Rattle.std.specs.Prelude.{Some, None};
 ghost use Rattle.manual.specs.declared.Base.TheVariants.{Absent};
 ghost use Rattle.manual.specs.declared.Group.TheVariants.{TwoAddress, Jump};
 ghost use Rattle.manual.specs.Decode.{number_at, decode_named, decode_opcode, decode_of};
 ghost use Rattle.manual.specs.Stops.{address_of};
 ghost use Rattle.decode.specs.Fetching.{fetched_of, allows_named, unlisted};
 
-use manual::{Base, Form, Group, Machine, Named, Operation};
+use manual::{Base, Form, Group, Machine, Operation};
 
 // The stops hold nothing: one that held a value would cost the run's loop its registers.
 #[derive(Clone, Copy)]
@@ -226,7 +226,7 @@ fn single(op: Operation, form: Form, m: &Machine, s: &[u8], at: usize) -> Fetche
     requires within { (at < 65536) × (at < length s.now) }
     requires holds { (form.second ≡ Absent) × (2 + width_of form.first ≤ form.length) × (3 ≤ form.length) × (form.length < 7) }
     requires base { first_base form.group form.first (get_or s.now (at + 0) 0 % 16) ≡ form.first }
-    ensures { result ≡ fetched_of m.now (decode_named s.now at form (Known op)) }
+    ensures { result ≡ fetched_of m.now (decode_named s.now at form (Some op)) }
 {
     let length = form.length as usize;
     if s.len() - at < length {
@@ -247,7 +247,7 @@ fn third(op: Operation, base: Base, m: &Machine, s: &[u8], at: usize) -> Fetched
     requires within { (at < 65536) × (at < length s.now) }
     requires base { (width_of base ≤ 1) × (first_base Jump Absent (get_or s.now (at + 0) 0 % 16) ≡ base) }
     requires free { (q : ℕ) → allowed op q ≡ true }
-    ensures { result ≡ fetched_of m.now (decode_named s.now at (form_of 15) (Known op)) }
+    ensures { result ≡ fetched_of m.now (decode_named s.now at (form_of 15) (Some op)) }
 {
     if s.len() - at < 3 {
         return Fetched::PastStorage;
@@ -260,7 +260,7 @@ fn third(op: Operation, base: Base, m: &Machine, s: &[u8], at: usize) -> Fetched
 // Of the operations of two addresses MVX alone refuses some Q bytes. The right digit is asked and not the operation, so that the loop keeps no call here.
 #[tactic(auto, unfolding(manual::specs::Formats::allowed))]
 fn pair_allows(right: u8, q: u8) -> bool
-    ensures { result ≡ allows_named (get_or two_address right Unknown) q }
+    ensures { result ≡ allows_named (get_or two_address right None) q }
 {
     match right {
         8 => q <= 3,
@@ -273,9 +273,9 @@ fn pair_allows(right: u8, q: u8) -> bool
 #[tactic(auto, unfolding(manual::specs::Decode::instruction_of, manual::specs::Formats::first_base))]
 fn double(right: u8, op: Operation, form: Form, m: &Machine, s: &[u8], at: usize) -> Fetched
     requires within { (at < 65536) × (at < length s.now) }
-    requires named { get_or two_address right Unknown ≡ Known op }
+    requires named { get_or two_address right None ≡ Some op }
     requires holds { (form.group ≡ TwoAddress) × (2 + width_of form.first + width_of form.second ≤ form.length) × (3 ≤ form.length) × (form.length < 7) }
-    ensures { result ≡ fetched_of m.now (decode_named s.now at form (Known op)) }
+    ensures { result ≡ fetched_of m.now (decode_named s.now at form (Some op)) }
 {
     let length = form.length as usize;
     let left = s.len() - at;
@@ -293,21 +293,21 @@ fn double(right: u8, op: Operation, form: Form, m: &Machine, s: &[u8], at: usize
 }
 
 // The operations of two addresses, by the right digit.
-fn pair_named(right: u8) -> Named
-    ensures { result ≡ get_or two_address right Unknown }
+fn pair_named(right: u8) -> Option<Operation>
+    ensures { result ≡ get_or two_address right None }
 {
     match right {
-        4 => Named::Known(Operation::Zaz),
-        6 => Named::Known(Operation::Az),
-        7 => Named::Known(Operation::Sz),
-        8 => Named::Known(Operation::Mvx),
-        10 => Named::Known(Operation::Ed),
-        11 => Named::Known(Operation::Itc),
-        12 => Named::Known(Operation::Mvc),
-        13 => Named::Known(Operation::Clc),
-        14 => Named::Known(Operation::Alc),
-        15 => Named::Known(Operation::Slc),
-        _ => Named::Unknown,
+        4 => Some(Operation::Zaz),
+        6 => Some(Operation::Az),
+        7 => Some(Operation::Sz),
+        8 => Some(Operation::Mvx),
+        10 => Some(Operation::Ed),
+        11 => Some(Operation::Itc),
+        12 => Some(Operation::Mvc),
+        13 => Some(Operation::Clc),
+        14 => Some(Operation::Alc),
+        15 => Some(Operation::Slc),
+        _ => None,
     }
 }
 
@@ -319,7 +319,7 @@ fn pair(opcode: u8, m: &Machine, s: &[u8], at: usize) -> Fetched
     ensures { result ≡ fetched_of m.now (decode_opcode s.now at opcode) }
 {
     let right = opcode % 16;
-    let Named::Known(op) = pair_named(right) else {
+    let Some(op) = pair_named(right) else {
         return Fetched::Unnamed;
     };
     let form = form_of(opcode / 16);

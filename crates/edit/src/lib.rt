@@ -5,7 +5,7 @@ ghost use Rattle.std.specs.Prelude.{◌≡◌, ◌+◌, ◌<◌, ◌≤◌, leng
 ghost use Rattle.manual.specs.Values.{bytes_of, size, digits_of, value, sign_order};
 ghost use Rattle.manual.specs.Edit.{half_moved, mvx, count20, source_reach, put_edited, ed, ends_scan, scan, itc};
 ghost use Rattle.manual.specs.Step.{Gives};
-ghost use Rattle.parts.specs.Leaf.{way, Does};
+ghost use Rattle.parts.specs.Leaf.{Does};
 
 use manual::{Fields, Machine, Stop};
 use parts::{reach, reach_right, set_order};
@@ -58,7 +58,7 @@ fn count_20(s: &[u8], a: usize, n: usize) -> usize
 
 #[tactic(auto, unfolding(manual::specs::Edit::source_reach))]
 fn source_reach(size: usize, n: usize, a: usize) -> Result<(), Stop>
-    ensures { result ≡ way (source_reach size n a) }
+    ensures { result ≡ source_reach size n a }
 {
     if n == 0 {
         return Ok(());
@@ -82,7 +82,7 @@ fn take(s: &[u8], a: usize, n: usize, d: &mut [u8; 256])
 // A digit above 9 stops with 8.
 #[tactic(auto, unfolding(manual::specs::Values::digits_of), using(crate::proofs::Taking::digit_refused, crate::proofs::Taking::digit_passed, crate::proofs::Taking::digits_done))]
 fn digits_of(d: &[u8]) -> Result<(), Stop>
-    ensures { result ≡ way (digits_of d.now) }
+    ensures { result ≡ digits_of d.now }
 {
     let mut i = 0;
     while i < d.len() {

@@ -4,8 +4,7 @@ use Rattle.std.proofs.Common.{ap, sym, ◌∙◌}
 use Rattle.manual.specs.declared.Machine.{Machine}
 use Rattle.manual.specs.declared.Answer.{Answer}
 use Rattle.manual.specs.declared.Ended.{Ended}
-use Rattle.manual.specs.declared.WriteAnswer.{WriteAnswer}
-use Rattle.manual.specs.Numbers.{answer_told, told, read_number, write_told}
+use Rattle.manual.specs.Numbers.{answer_told, told, read_number, write_told, WriteAnswer}
 use Rattle.manual.specs.TheMachine.{size_allowed}
 use Rattle.manual.specs.Step.{Outcome, step_of}
 use Rattle.manual.specs.Run.{RanOutcome, run_of}

@@ -5,7 +5,7 @@
 ghost use Rattle.std.specs.Prelude.{◌≡◌};
 ghost use Rattle.host.specs.Told.{step_numbers, run_numbers, write_numbers, ToldStepAs, ToldRunAs, ToldReadAs, ToldWriteAs, ToldLengthAs};
 
-use manual::{Answer, Ended, Machine, WriteAnswer};
+use manual::{Answer, Ended, Machine, WriteFault};
 
 // ---- what comes back: numbers only, since C has no enum of ours
 
@@ -87,7 +87,7 @@ fn run_numbers(e: Ended) -> RunNumbers
     }
 }
 
-fn write_numbers(a: WriteAnswer) -> WriteNumbers
+fn write_numbers(a: Result<usize, WriteFault>) -> WriteNumbers
     ensures { result ≡ write_numbers a }
 {
     let number = told::write_number(a);

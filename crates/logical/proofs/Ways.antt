@@ -1,35 +1,32 @@
 -- What stands in the way of a rule, by what the code's tests of both operands gave. What carries it: cases.
 use Rattle.std.proofs.Common.{◌≡◌, ℕ, ◌+◌, ◌<◌, ◌≤◌, Ok, Err, refl}
 use Rattle.manual.specs.declared.Stop.{Stop}
-use Rattle.manual.specs.declared.Way.{Way}
-use Rattle.manual.specs.declared.Way.TheVariants.{Clear, Barred}
-use Rattle.manual.specs.Programs.{and_then}
+use Rattle.manual.specs.Programs.{and_then, Way}
 use Rattle.manual.specs.Formats.{reach}
 use Rattle.manual.proofs.Running.{doing, reach_clear}
-use Rattle.parts.specs.Leaf.{way}
 
-clear_way : (w : Way) → Ok tt ≡ way w → w ≡ Clear
-clear_way Clear e = refl
-clear_way (Barred x) e = cc
+clear_way : (w : Way) → Ok tt ≡ w → w ≡ Ok tt
+clear_way (Ok tt) e = refl
+clear_way (Err x) e = cc
 
-barred_way : (w : Way) (x : Stop) → Err x ≡ way w → w ≡ Barred x
-barred_way Clear x e = cc
-barred_way (Barred y) x e = cc
+barred_way : (w : Way) (x : Stop) → Err x ≡ w → w ≡ Err x
+barred_way (Ok tt) x e = cc
+barred_way (Err y) x e = cc
 
 module _ (size n a : ℕ) where
-  pub reached : Ok tt ≡ way (reach size n a) → (a < size) × (n ≤ a + 1)
+  pub reached : Ok tt ≡ (reach size n a) → (a < size) × (n ≤ a + 1)
   reached e = reach_clear size n a (rw (clear_way _ e) refl)
 
   module _ (k b : ℕ) where
-    pub both_clear : Ok tt ≡ way (reach size n a) → Ok tt ≡ way (reach size k b) → and_then (reach size n a) (reach size k b) ≡ Clear
+    pub both_clear : Ok tt ≡ (reach size n a) → Ok tt ≡ (reach size k b) → and_then (reach size n a) (reach size k b) ≡ Ok tt
     unfolding and_then
     both_clear e f = rw (clear_way _ e, clear_way _ f) refl
 
-    pub first_barred : (x : Stop) → Err x ≡ way (reach size n a) → and_then (reach size n a) (reach size k b) ≡ Barred x
+    pub first_barred : (x : Stop) → Err x ≡ (reach size n a) → and_then (reach size n a) (reach size k b) ≡ Err x
     unfolding and_then
     first_barred x e = rw (barred_way _ x e) refl
 
-    pub second_barred : (x : Stop) → Ok tt ≡ way (reach size n a) → Err x ≡ way (reach size k b) → and_then (reach size n a) (reach size k b) ≡ Barred x
+    pub second_barred : (x : Stop) → Ok tt ≡ (reach size n a) → Err x ≡ (reach size k b) → and_then (reach size n a) (reach size k b) ≡ Err x
     unfolding and_then
     second_barred x e f = rw (clear_way _ e, barred_way _ x f) refl
 

@@ -4,15 +4,8 @@ use Rattle.manual.specs.declared.Machine.{Machine}
 use Rattle.manual.specs.declared.Stop.{Stop}
 use Rattle.manual.specs.declared.Answer.{Answer}
 use Rattle.manual.specs.declared.Answer.TheVariants.{Executed, Stopped}
-use Rattle.manual.specs.declared.Way.{Way}
-use Rattle.manual.specs.declared.Way.TheVariants.{Clear, Barred}
-use Rattle.manual.specs.Programs.{Rule}
+use Rattle.manual.specs.Programs.{Rule, Way}
 use Rattle.manual.specs.Step.{ended, did}
-
--- what stands in the way, as a result
-abbrev pub way : Way → Result (Unit {0}) Stop
-way Clear = Ok tt
-way (Barred x) = Err x
 
 abbrev pub answer : Result (Unit {0}) Stop → Answer
 answer (Ok x) = Executed

@@ -7,7 +7,6 @@ ghost use Rattle.manual.specs.Formats.{reach, reach_right};
 ghost use Rattle.manual.specs.Logical.{sum_status, difference_status};
 ghost use Rattle.manual.specs.Registers.{register_named};
 ghost use Rattle.manual.specs.Places.{register_of, with_register};
-ghost use Rattle.parts.specs.Leaf.{way};
 
 use manual::{Columns, Machine, Stop};
 
@@ -16,7 +15,7 @@ use manual::{Columns, Machine, Stop};
 // n bytes whose rightmost is at a.
 #[tactic(auto, unfolding(manual::specs::Formats::reach))]
 pub fn reach(size: usize, n: usize, a: usize) -> Result<(), Stop>
-    ensures { result ≡ way (reach size n a) }
+    ensures { result ≡ reach size n a }
 {
     if a < size && n <= a + 1 {
         Ok(())
@@ -28,7 +27,7 @@ pub fn reach(size: usize, n: usize, a: usize) -> Result<(), Stop>
 // n bytes whose leftmost is at a.
 #[tactic(auto, unfolding(manual::specs::Formats::reach_right))]
 pub fn reach_right(size: usize, n: usize, a: usize) -> Result<(), Stop>
-    ensures { result ≡ way (reach_right size n a) }
+    ensures { result ≡ reach_right size n a }
 {
     if n <= size && a <= size - n {
         Ok(())

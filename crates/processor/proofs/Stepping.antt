@@ -1,4 +1,5 @@
 -- The inner step and the turns of the run's loop, over plain variables. What carries it: a step is what decoding finds, performed.
+use Rattle.std.specs.Prelude.{Ok, Err}
 use mathlib.Core.Path.{◌≡◌, refl, ap, sym, ◌∙◌}
 use mathlib.Core.Bool.{true, false, false≢true}
 use mathlib.Core.List.{List}
@@ -9,9 +10,7 @@ use Rattle.manual.specs.declared.Fields.{Fields}
 use Rattle.manual.specs.declared.Answer.TheVariants.{Executed, Stopped}
 use Rattle.manual.specs.declared.Stop.{Stop}
 use Rattle.manual.specs.declared.Stop.TheVariants.{CutShort, OpcodeUnknown, QRefused, OperandOutside, DigitRefused, Supervisor}
-use Rattle.manual.specs.declared.Decoded.{Decoded}
-use Rattle.manual.specs.declared.Decoded.TheVariants.{Found, NotFound}
-use Rattle.manual.specs.Decode.{decode_of}
+use Rattle.manual.specs.Decode.{decode_of, Decoded}
 use Rattle.manual.specs.Step.{Outcome, ended, exec, did, follow, inner_step}
 use Rattle.manual.specs.Stops.{fields_of}
 use Rattle.manual.specs.Run.{ran, turns_of}
@@ -27,29 +26,29 @@ module _ (m : Machine) (s : List ℕ) where
   -- an instruction that decoding found, executed
   module _ (op : Operation) (q r a1 a2 next : ℕ) where
     follows : (d : Decoded) → fetched_of m d ≡ Go op q r a1 a2 next → did m s (exec op (record { q = q; r = r; a1 = a1; a2 = a2; next = next })) ≡ did m s (follow d)
-    follows (Found i) e =
+    follows (Ok i) e =
         let o : op ≡ i.operation = cc in
         let f : ◌≡◌ {A = Fields} (record { q = q; r = r; a1 = a1; a2 = a2; next = next }) (fields_of m i) = cc in
         rw (o, f) (sym (did_perform m s i))
-    follows (NotFound CutShort) e = cc
-    follows (NotFound OpcodeUnknown) e = cc
-    follows (NotFound QRefused) e = cc
-    follows (NotFound OperandOutside) e = cc
-    follows (NotFound DigitRefused) e = cc
-    follows (NotFound (Supervisor a b)) e = cc
+    follows (Err CutShort) e = cc
+    follows (Err OpcodeUnknown) e = cc
+    follows (Err QRefused) e = cc
+    follows (Err OperandOutside) e = cc
+    follows (Err DigitRefused) e = cc
+    follows (Err (Supervisor a b)) e = cc
 
     pub executes : fetched_of m (decode_of s m.iar) ≡ Go op q r a1 a2 next → did m s (exec op (record { q = q; r = r; a1 = a1; a2 = a2; next = next })) ≡ inner_step m s
     executes e = follows (decode_of s m.iar) e ∙ sym (did_step m s)
 
   -- no instruction: the step stops where decoding did
   ends_as : (d : Decoded) → DecodedAt s m.iar d → is_go (fetched_of m d) ≡ false → ended m (Stopped (fetch_stop (fetched_of m d))) s ≡ did m s (follow d)
-  ends_as (Found i) h g = absurd (false≢true (sym g))
-  ends_as (NotFound CutShort) h g = sym (did_stop m s CutShort)
-  ends_as (NotFound OpcodeUnknown) h g = sym (did_stop m s OpcodeUnknown)
-  ends_as (NotFound QRefused) h g = sym (did_stop m s QRefused)
-  ends_as (NotFound OperandOutside) h g = absurd h
-  ends_as (NotFound DigitRefused) h g = absurd h
-  ends_as (NotFound (Supervisor a b)) h g = absurd h
+  ends_as (Ok i) h g = absurd (false≢true (sym g))
+  ends_as (Err CutShort) h g = sym (did_stop m s CutShort)
+  ends_as (Err OpcodeUnknown) h g = sym (did_stop m s OpcodeUnknown)
+  ends_as (Err QRefused) h g = sym (did_stop m s QRefused)
+  ends_as (Err OperandOutside) h g = absurd h
+  ends_as (Err DigitRefused) h g = absurd h
+  ends_as (Err (Supervisor a b)) h g = absurd h
 
   pub ends : (d : Fetched) → d ≡ fetched_of m (decode_of s m.iar) → is_go d ≡ false → ended m (Stopped (fetch_stop d)) s ≡ inner_step m s
   ends d e g = rw e (ends_as (decode_of s m.iar) (decoded_at s m.iar) (rw e at g) ∙ sym (did_step m s))

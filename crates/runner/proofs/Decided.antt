@@ -1,4 +1,5 @@
 -- What decides a line: the storage lent counts by its size alone, and of a deck that is too large the front is enough.
+use Rattle.std.specs.Prelude.{Ok, Err}
 use Prim.Native.Nat.{ℕ, ◌<◌, ◌≤◌}
 use native.Mathlib.Omega.{arith}
 use mathlib.Core.Path.{◌≡◌, refl, ap, sym, ◌∙◌}
@@ -9,11 +10,9 @@ use lib.Dec.{ltb}
 use lib.ListN.{length, get_or, take, replicate, length-replicate}
 use lib.Seq.{length-take-le}
 use Rattle.manual.specs.declared.DeckFault.{DeckFault}
-use Rattle.manual.specs.declared.ReadAnswer.{ReadAnswer}
-use Rattle.manual.specs.declared.ReadAnswer.TheVariants.{DeckRead, DeckRefused}
 use Rattle.manual.specs.declared.DeckOut.{DeckOut}
 use Rattle.manual.specs.declared.Ran.{Ran}
-use Rattle.manual.specs.Numbers.{told, fault_number}
+use Rattle.manual.specs.Numbers.{told, fault_number, ReadAnswer}
 use Rattle.manual.specs.Run.{ran_outcome, run_of}
 use Rattle.manual.specs.Deck.{machine_in, storage_in, deck_answer, read_with, read_outcome, read_of}
 use Rattle.manual.specs.Runner.{number_line, run_line, too_large, lent_size, budget, line_of_run, read_line, line_of}
@@ -24,8 +23,8 @@ use Rattle.runner.specs.Text.{printed}
 same_line :
     (x : ReadAnswer) (d s t : List ℕ) → length s ≡ length t
     → read_line (read_with x d s).gave.answer (read_with x d s) ≡ read_line (read_with x d t).gave.answer (read_with x d t)
-same_line DeckRead d s t e = ap (λ (n : ℕ). line_of_run (run_of (machine_in d) (storage_in d n) budget)) e
-same_line (DeckRefused x) d s t e = refl
+same_line (Ok tt) d s t e = ap (λ (n : ℕ). line_of_run (run_of (machine_in d) (storage_in d n) budget)) e
+same_line (Err x) d s t e = refl
 
 read_line_lem : (d s : List ℕ) → too_large d ≡ false → length s ≡ lent_size d → line_of d ≡ read_line (read_of d s).gave.answer (read_of d s)
 unfolding line_of read_of
@@ -38,12 +37,12 @@ read_line_lem d s e h =
 -- reading gave r and left t
 pub refused_line :
     (d s : List ℕ) (r : DeckOut) (t : List ℕ) (x : DeckFault) (n : ℕ) {l : Printed} → too_large d ≡ false → length s ≡ lent_size d → read_outcome r t ≡ read_of d s
-    → r.answer ≡ DeckRefused x → n ≡ fault_number x → l ≡ printed (number_line n) → l ≡ printed (line_of d)
+    → r.answer ≡ Err x → n ≡ fault_number x → l ≡ printed (number_line n) → l ≡ printed (line_of d)
 refused_line d s r t x n e h p a q hl = rw (read_line_lem d s e h, ← p, a) (hl ∙ ap (λ (k : ℕ). printed (number_line k)) q)
 
 pub ran_line :
     (d s : List ℕ) (r : DeckOut) (t : List ℕ) (g : Ran) (u : List ℕ) {l : Printed} → too_large d ≡ false → length s ≡ lent_size d → read_outcome r t ≡ read_of d s
-    → r.answer ≡ DeckRead → ran_outcome g u ≡ run_of r.machine t budget → l ≡ printed (run_line g.machine (told g.ended)) → l ≡ printed (line_of d)
+    → r.answer ≡ Ok tt → ran_outcome g u ≡ run_of r.machine t budget → l ≡ printed (run_line g.machine (told g.ended)) → l ≡ printed (line_of d)
 ran_line d s r t g u e h p a q hl = rw (read_line_lem d s e h, ← p, a, ← q) hl
 
 pub large_line : (d : List ℕ) → too_large d ≡ true → line_of d ≡ number_line 18

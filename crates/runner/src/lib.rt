@@ -8,7 +8,7 @@ ghost use Rattle.manual.specs.Numbers.{told};
 ghost use Rattle.manual.specs.Runner.{too_large, lent_size, number_line, run_line, line_of};
 ghost use Rattle.runner.specs.Text.{printed};
 
-use manual::{Ended, Machine, ReadAnswer};
+use manual::{DeckFault, Ended, Machine};
 
 // The line stands at the front of `bytes`.
 #[derive(Clone, Copy)]
@@ -70,8 +70,8 @@ fn answered(deck: &[u8], s: &mut [u8]) -> Printed
     let read = deck::read(deck, s);
     let answer = read.answer;
     match answer {
-        ReadAnswer::DeckRefused(fault) => number_line(told::fault_number(fault)),
-        ReadAnswer::DeckRead => {
+        Err(fault) => number_line(told::fault_number(fault)),
+        Ok(()) => {
             let m = read.machine;
             let t = processor::run(m, s, 1000000);
             run_line(t.machine, t.ended)

@@ -4,7 +4,7 @@
 ghost use Rattle.std.specs.Prelude.{◌≡◌, ◌<◌};
 ghost use Rattle.manual.specs.Numbers.{answer_told, refusal_told, stop_told, fault_number, read_number, write_fault_number, write_told};
 
-use manual::{Answer, DeckFault, ReadAnswer, Refusal, Stop, WriteAnswer, WriteFault};
+use manual::{Answer, DeckFault, Refusal, Stop, WriteFault};
 
 // ---- step and run
 
@@ -104,12 +104,12 @@ pub fn fault_number(x: DeckFault) -> u8
     }
 }
 
-pub fn read_number(a: ReadAnswer) -> u8
+pub fn read_number(a: Result<(), DeckFault>) -> u8
     ensures { result ≡ read_number a }
 {
     match a {
-        ReadAnswer::DeckRead => 0,
-        ReadAnswer::DeckRefused(x) => fault_number(x),
+        Ok(()) => 0,
+        Err(x) => fault_number(x),
     }
 }
 
@@ -123,20 +123,20 @@ fn write_fault_number(x: WriteFault) -> u8
     }
 }
 
-pub fn write_number(a: WriteAnswer) -> u8
+pub fn write_number(a: Result<usize, WriteFault>) -> u8
     ensures { result ≡ (write_told a).number }
 {
     match a {
-        WriteAnswer::DeckWritten(_) => 0,
-        WriteAnswer::NotWritten(x) => write_fault_number(x),
+        Ok(_) => 0,
+        Err(x) => write_fault_number(x),
     }
 }
 
-pub fn write_length(a: WriteAnswer) -> usize
+pub fn write_length(a: Result<usize, WriteFault>) -> usize
     ensures { result ≡ (write_told a).length }
 {
     match a {
-        WriteAnswer::DeckWritten(n) => n,
-        WriteAnswer::NotWritten(_) => 0,
+        Ok(n) => n,
+        Err(_) => 0,
     }
 }

@@ -1,8 +1,7 @@
 -- What the inner functions' promises cite: columns of digits, what stands in the way, and what a result leaves. No published promise does.
 use Rattle.std.specs.Prelude.{◌≡◌, Bool, true, cond, List, ◌⊎◌, ℕ, ◌+◌, ◌-◌, ◌%◌, ◌^◌, ◌≤◌, ◌<◌, ℤ, ◌+ℤ◌, length, get_or, set}
-use Rattle.manual.specs.declared.Way.{Way}
 use Rattle.manual.specs.TheMachine.{decimal_overflow, equal, low, high, turn_on, set_order}
-use Rattle.manual.specs.Programs.{and_then}
+use Rattle.manual.specs.Programs.{and_then, Way}
 use Rattle.manual.specs.Formats.{reach}
 use Rattle.manual.specs.Values.{bytes_of, digit, zone, size, signed, all_digits, digits_of, cut, left_minus}
 use Rattle.manual.specs.Zoned.{l1, l2, zoned_status}

@@ -7,7 +7,7 @@ ghost use Rattle.manual.specs.Values.{bytes_of, digit, size, value, all_digits, 
 ghost use Rattle.manual.specs.Zoned.{l1, l2, zaz, az, sz};
 ghost use Rattle.manual.proofs.FieldBytes.{written};
 ghost use Rattle.manual.proofs.ZonedRead.{zoned_bytes};
-ghost use Rattle.parts.specs.Leaf.{way, Does};
+ghost use Rattle.parts.specs.Leaf.{Does};
 ghost use Rattle.zoned.specs.Working.{zaz_way, combine_way, Ready, Digits, Zones, Field, still, alone, round_of, taken, Operands, sum_of, sign_put, finished, signed_sum, Left};
 
 use manual::{Fields, Machine, Stop};
@@ -70,7 +70,7 @@ fn has_bad(s: &[u8], n: usize, a: usize) -> bool
 #[tactic(auto, unfolding(manual::specs::Values::digits_of))]
 fn digits_of(s: &[u8], n: usize, a: usize) -> Result<(), Stop>
     requires { (a < length s.now) × (n ≤ a + 1) × (n ≤ 31) }
-    ensures { result ≡ way (digits_of (bytes_of s.now n a)) }
+    ensures { result ≡ digits_of (bytes_of s.now n a) }
 {
     if has_bad(s, n, a) {
         return Err(Stop::DigitRefused);
@@ -81,7 +81,7 @@ fn digits_of(s: &[u8], n: usize, a: usize) -> Result<(), Stop>
 // Both operands' places, then the digits of operand 2: operand 1 of ZAZ isn't read, so not tested.
 #[tactic(auto, unfolding(manual::specs::Programs::and_then, manual::specs::Formats::reach))]
 fn zaz_way(s: &[u8], q: u8, a1: usize, a2: usize) -> Result<(), Stop>
-    ensures { result ≡ way (zaz_way s.now q a1 a2) }
+    ensures { result ≡ zaz_way s.now q a1 a2 }
 {
     reach(s.len(), l1(q), a1)?;
     reach(s.len(), l2(q), a2)?;
@@ -91,7 +91,7 @@ fn zaz_way(s: &[u8], q: u8, a1: usize, a2: usize) -> Result<(), Stop>
 // The same, and then the digits of operand 1.
 #[tactic(auto, unfolding(manual::specs::Programs::and_then))]
 fn combine_way(s: &[u8], q: u8, a1: usize, a2: usize) -> Result<(), Stop>
-    ensures { result ≡ way (combine_way s.now q a1 a2) }
+    ensures { result ≡ combine_way s.now q a1 a2 }
 {
     zaz_way(s, q, a1, a2)?;
     digits_of(s, l1(q), a1)
