@@ -28,9 +28,9 @@ pub enum Register {
 // Why a call of step or run is refused at entry.
 #[derive(Clone, Copy, Debug, PartialEq, Eq)]
 pub enum Refusal {
-    SizeRefused,
-    BudgetRefused,
-    StatusRefused,
+    SizeRefused = 1,
+    BudgetRefused = 2,
+    StatusRefused = 3,
 }
 
 // Why an instruction stops.
@@ -172,14 +172,14 @@ pub struct Columns {
 // Why a deck is not read.
 #[derive(Clone, Copy, Debug, PartialEq, Eq)]
 pub enum DeckFault {
-    SizeNotTheDecks,
-    StatusNotAllowed,
-    EndsEarly,
-    KindUnknown,
-    OutOfOrder,
-    PageBeyond,
-    PageOfZeros,
-    BytesAfterEnd,
+    SizeNotTheDecks = 1,
+    StatusNotAllowed = 3,
+    EndsEarly = 11,
+    KindUnknown = 12,
+    OutOfOrder = 13,
+    PageBeyond = 14,
+    PageOfZeros = 15,
+    BytesAfterEnd = 16,
 }
 
 #[derive(Clone, Copy, Debug, PartialEq, Eq)]
@@ -191,7 +191,7 @@ pub struct DeckOut {
 // Why a deck is not written.
 #[derive(Clone, Copy, Debug, PartialEq, Eq)]
 pub enum WriteFault {
-    SizeNotAllowed,
-    StatusNotWritable,
-    OutputShort,
+    SizeNotAllowed = 1,
+    StatusNotWritable = 3,
+    OutputShort = 17,
 }
