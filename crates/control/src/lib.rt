@@ -16,7 +16,7 @@ fn word(s: &[u8], a: usize) -> u16
     requires { (a < length s.now) × (1 ≤ a) }
     ensures { result ≡ get_or s.now (a - 1) 0 * 256 + get_or s.now a 0 }
 {
-    u16::from(s[a - 1]) * 256 + u16::from(s[a])
+    u16::from_be_bytes([s[a - 1], s[a]])
 }
 
 #[tactic(auto, unfolding(manual::specs::Registers::store, manual::specs::Programs::unless, manual::specs::Programs::val, manual::specs::Programs::fin, manual::specs::Step::did, manual::specs::Formats::reach))]
@@ -130,23 +130,14 @@ fn after_test(q: u8, status: u8) -> u8
     status & (255 - q / 8 % 4 * 8)
 }
 
+// The status with one of its bits off.
 #[tactic(auto, unfolding(manual::specs::TheMachine::turn_off))]
-fn without_overflow(status: u8) -> u8
-    ensures { result ≡ turn_off decimal_overflow status }
+fn without<const BIT: u8>(status: u8) -> u8
+    requires { 0 < BIT }
+    ensures { result ≡ turn_off BIT status }
 {
-    if status / 8 % 2 == 1 {
-        status - 8
-    } else {
-        status
-    }
-}
-
-#[tactic(auto, unfolding(manual::specs::TheMachine::turn_off))]
-fn without_test_false(status: u8) -> u8
-    ensures { result ≡ turn_off test_false status }
-{
-    if status / 16 % 2 == 1 {
-        status - 16
+    if status / BIT % 2 == 1 {
+        status - BIT
     } else {
         status
     }
@@ -159,12 +150,12 @@ fn after_taken(q: u8, status: u8) -> u8
     ensures { result ≡ after_test q status }
 {
     let status = if q / 8 % 2 == 1 {
-        without_overflow(status)
+        without::<8>(status)
     } else {
         status
     };
     if q / 16 % 2 == 1 {
-        without_test_false(status)
+        without::<16>(status)
     } else {
         status
     }

@@ -1,4 +1,3 @@
 pub mod Turns
 pub mod Fours
 pub mod Orders
-pub mod Ways

@@ -1,55 +1,39 @@
 // TBN, TBF, SBN, SBF, MVI, CLI, SLI: one byte, with Q as a mask or as the other byte.
 
 ghost use Rattle.std.specs.Prelude.{◌≡◌};
-ghost use Rattle.manual.specs.Immediate.{tbn, tbf, sbn, sbf, mvi, cli, sli};
+ghost use Rattle.manual.specs.Immediate.{mvi, cli, sli};
+ghost use Rattle.logical.specs.Bits.{test_bits, set_bits};
 ghost use Rattle.parts.specs.Leaf.{Does};
 
 use manual::{Columns, Fields, Machine, Stop};
 
-#[tactic(auto, unfolding(manual::specs::Immediate::tbn, manual::specs::Programs::unless, manual::specs::Programs::val, manual::specs::Programs::fin, manual::specs::Step::did, manual::specs::Formats::reach))]
-pub fn tbn(m: &mut Machine, s: &[u8], f: Fields) -> Result<(), Stop>
-    ensures { Does (tbn f) m.old s.now result m.new s.now }
+/// TBN where `ON`, TBF where not: test false goes on unless all bits of the byte that Q masks are on, or off.
+#[tactic(auto, unfolding(manual::specs::Immediate::tbn, manual::specs::Immediate::tbf, manual::specs::Programs::unless, manual::specs::Programs::val, manual::specs::Programs::fin, manual::specs::Step::did, manual::specs::Formats::reach))]
+pub fn test_bits<const ON: bool>(m: &mut Machine, s: &[u8], f: Fields) -> Result<(), Stop>
+    ensures { Does (test_bits ON f) m.old s.now result m.new s.now }
 {
     let a = usize::from(f.a1);
     parts::reach(s.len(), 1, a)?;
-    if s[a] & f.q != f.q {
+    let wanted = if ON { f.q } else { 0 };
+    if s[a] & f.q != wanted {
         m.status = parts::with_test_false(m.status);
     }
     m.iar = f.next;
     Ok(())
 }
 
-#[tactic(auto, unfolding(manual::specs::Immediate::tbf, manual::specs::Programs::unless, manual::specs::Programs::val, manual::specs::Programs::fin, manual::specs::Step::did, manual::specs::Formats::reach))]
-pub fn tbf(m: &mut Machine, s: &[u8], f: Fields) -> Result<(), Stop>
-    ensures { Does (tbf f) m.old s.now result m.new s.now }
+/// SBN where `ON`, SBF where not: the bits of the byte that Q masks go on, or off.
+#[tactic(auto, unfolding(manual::specs::Immediate::sbn, manual::specs::Immediate::sbf, manual::specs::Programs::unless, manual::specs::Programs::val, manual::specs::Programs::fin, manual::specs::Step::did, manual::specs::Formats::reach))]
+pub fn set_bits<const ON: bool>(m: &mut Machine, s: &mut [u8], f: Fields) -> Result<(), Stop>
+    ensures { Does (set_bits ON f) m.old s.old result m.new s.new }
 {
     let a = usize::from(f.a1);
     parts::reach(s.len(), 1, a)?;
-    if s[a] & f.q != 0 {
-        m.status = parts::with_test_false(m.status);
+    if ON {
+        s[a] |= f.q;
+    } else {
+        s[a] &= 255 - f.q;
     }
-    m.iar = f.next;
-    Ok(())
-}
-
-#[tactic(auto, unfolding(manual::specs::Immediate::sbn, manual::specs::Programs::unless, manual::specs::Programs::val, manual::specs::Programs::fin, manual::specs::Step::did, manual::specs::Formats::reach))]
-pub fn sbn(m: &mut Machine, s: &mut [u8], f: Fields) -> Result<(), Stop>
-    ensures { Does (sbn f) m.old s.old result m.new s.new }
-{
-    let a = usize::from(f.a1);
-    parts::reach(s.len(), 1, a)?;
-    s[a] |= f.q;
-    m.iar = f.next;
-    Ok(())
-}
-
-#[tactic(auto, unfolding(manual::specs::Immediate::sbf, manual::specs::Programs::unless, manual::specs::Programs::val, manual::specs::Programs::fin, manual::specs::Step::did, manual::specs::Formats::reach))]
-pub fn sbf(m: &mut Machine, s: &mut [u8], f: Fields) -> Result<(), Stop>
-    ensures { Does (sbf f) m.old s.old result m.new s.new }
-{
-    let a = usize::from(f.a1);
-    parts::reach(s.len(), 1, a)?;
-    s[a] &= 255 - f.q;
     m.iar = f.next;
     Ok(())
 }

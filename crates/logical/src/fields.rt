@@ -25,7 +25,7 @@ fn copy_left(s: &mut [u8], a: usize, b: usize, n: usize)
     }
 }
 
-#[tactic(auto, unfolding(manual::specs::Logical::mvc), using(crate::proofs::Ways::leaves))]
+#[tactic(auto, unfolding(manual::specs::Logical::mvc), using(parts::proofs::Ways::leaves))]
 pub fn mvc(m: &mut Machine, s: &mut [u8], f: Fields) -> Result<(), Stop>
     ensures { Does (mvc f) m.old s.old result m.new s.new }
 {
@@ -53,7 +53,7 @@ fn field_order(s: &[u8], a: usize, b: usize, n: usize) -> u8
     }
 }
 
-#[tactic(auto, unfolding(manual::specs::Logical::clc), using(crate::proofs::Ways::leaves))]
+#[tactic(auto, unfolding(manual::specs::Logical::clc), using(parts::proofs::Ways::leaves))]
 pub fn clc(m: &mut Machine, s: &[u8], f: Fields) -> Result<(), Stop>
     ensures { Does (clc f) m.old s.now result m.new s.now }
 {
@@ -183,7 +183,7 @@ fn left<const LESS: bool>(s: &mut [u8], a: usize, b: usize, n: usize) -> Columns
     ones::<LESS>(s, a, b, n, 4 * m, c)
 }
 
-#[tactic(auto, unfolding(manual::specs::Logical::alc), using(crate::proofs::Ways::leaves))]
+#[tactic(auto, unfolding(manual::specs::Logical::alc), using(parts::proofs::Ways::leaves))]
 pub fn alc(m: &mut Machine, s: &mut [u8], f: Fields) -> Result<(), Stop>
     ensures { Does (alc f) m.old s.old result m.new s.new }
 {
@@ -195,7 +195,7 @@ pub fn alc(m: &mut Machine, s: &mut [u8], f: Fields) -> Result<(), Stop>
     Ok(())
 }
 
-#[tactic(auto, unfolding(manual::specs::Logical::slc), using(crate::proofs::Ways::leaves))]
+#[tactic(auto, unfolding(manual::specs::Logical::slc), using(parts::proofs::Ways::leaves))]
 pub fn slc(m: &mut Machine, s: &mut [u8], f: Fields) -> Result<(), Stop>
     ensures { Does (slc f) m.old s.old result m.new s.new }
 {

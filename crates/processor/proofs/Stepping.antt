@@ -1,22 +1,26 @@
 -- The inner step and the turns of the run's loop, over plain variables. What carries it: a step is what decoding finds, performed.
 use Rattle.std.specs.Prelude.{Ok, Err}
 use mathlib.Core.Path.{◌≡◌, refl, ap, sym, ◌∙◌}
-use mathlib.Core.Bool.{true, false, false≢true}
+use mathlib.Core.Bool.{Bool, true, false, cond, false≢true}
 use mathlib.Core.List.{List}
+use lib.ListN.{length}
 use Prim.Native.Nat.{ℕ, ◌+◌, ◌≤◌}
 use Rattle.manual.specs.declared.Machine.{Machine}
 use Rattle.manual.specs.declared.Operation.{Operation}
 use Rattle.manual.specs.declared.Fields.{Fields}
-use Rattle.manual.specs.declared.Answer.TheVariants.{Executed, Stopped}
+use Rattle.manual.specs.declared.Answer.TheVariants.{Executed, Refused, Stopped}
+use Rattle.manual.specs.declared.Refusal.TheVariants.{SizeRefused, StatusRefused}
+use Rattle.manual.specs.declared.Ran.{Ran}
 use Rattle.manual.specs.declared.Stop.{Stop}
 use Rattle.manual.specs.declared.Stop.TheVariants.{CutShort, OpcodeUnknown, QRefused, OperandOutside, DigitRefused, Supervisor}
 use Rattle.manual.specs.Decode.{decode_of, Decoded}
-use Rattle.manual.specs.Step.{Outcome, ended, exec, did, follow, inner_step}
+use Rattle.manual.specs.TheMachine.{size_allowed, budget_allowed, status_allowed}
+use Rattle.manual.specs.Step.{Outcome, ended, exec, did, follow, inner_step, step_of, SteppedAs}
 use Rattle.manual.specs.Stops.{fields_of}
-use Rattle.manual.specs.Run.{ran, turns_of}
+use Rattle.manual.specs.Run.{RanOutcome, ran, turns_of, run_of, RanAs}
 use Rattle.manual.proofs.Decoding.{DecodedAt, decoded_at}
 use Rattle.manual.proofs.Fetched.{did_step, did_stop, did_perform}
-use Rattle.manual.proofs.Runs.{ran_on, stopped_at, not_stopped}
+use Rattle.manual.proofs.Runs.{uncounted, one_turn, ran_on, stopped_at, not_stopped}
 use Rattle.decode.specs.declared.Fetched.{Fetched}
 use Rattle.decode.specs.declared.Fetched.TheVariants.{Go}
 use Rattle.decode.specs.Fetching.{fetched_of}
@@ -63,3 +67,24 @@ module _ (m : Machine) (s₀ : List ℕ) (k : ℕ) (n : Machine) (s : List ℕ) 
   -- one that stopped
   pub stops_at : (x : Stop) (b : ℕ) → k + 1 ≤ b → ended n' (Stopped x) t ≡ inner_step n s → ran n' (Stopped x) k t ≡ turns_of m s₀ b
   stops_at x b le does = stopped_at m s₀ k n s _ t at does b le (not_stopped x)
+
+-- ---- a step is a run of one turn
+
+module _ (m : Machine) (s : List ℕ) where
+  by_entry : (a b : Bool) → cond a (cond b (uncounted (turns_of m s 1)) (ended m (Refused StatusRefused) s)) (ended m (Refused SizeRefused) s)
+      ≡ cond a (cond b (inner_step m s) (ended m (Refused StatusRefused) s)) (ended m (Refused SizeRefused) s)
+  by_entry a b = rw (one_turn m s) refl
+
+  uncounted_entry : (a b : Bool) (x y z : RanOutcome) → uncounted (cond a (cond b x y) z) ≡ cond a (cond b (uncounted x) (uncounted y)) (uncounted z)
+  uncounted_entry true true x y z = refl
+  uncounted_entry true false x y z = refl
+  uncounted_entry false b x y z = refl
+
+  run_once : uncounted (run_of m s 1) ≡ step_of m s
+  unfolding run_of step_of budget_allowed
+  run_once =
+      uncounted_entry (size_allowed (length s)) (status_allowed m.status) (turns_of m s 1) (ran m (Refused StatusRefused) 0 s) (ran m (Refused SizeRefused) 0 s)
+      ∙ by_entry (size_allowed (length s)) (status_allowed m.status)
+
+  pub one_step : (r : Ran) (t : List ℕ) → RanAs m s 1 r t → SteppedAs m s (record { machine = r.machine; answer = r.ended.answer }) t
+  one_step r t h = ap uncounted h ∙ run_once

@@ -6,6 +6,7 @@ ghost use Rattle.manual.specs.Step.{exec, ended, inner_step, SteppedAs};
 ghost use Rattle.manual.specs.Run.{ran_outcome, turns_of, RanAs};
 ghost use Rattle.parts.specs.Leaf.{Does, answer};
 ghost use Rattle.processor.specs.Ending.{fetch_stop};
+ghost use Rattle.processor.specs.Entry.{admitted};
 
 use decode::Fetched;
 use manual::{Answer, Ended, Fields, Machine, Operation, Ran, Refusal, Stepped, Stop};
@@ -32,10 +33,10 @@ fn execute(m: &mut Machine, s: &mut [u8], op: Operation, f: Fields) -> Result<()
         Operation::L => control::load(m, s, f),
         Operation::A => control::add(m, s, f),
         Operation::S => control::subtract(m, s, f),
-        Operation::Tbn => logical::tbn(m, s, f),
-        Operation::Tbf => logical::tbf(m, s, f),
-        Operation::Sbn => logical::sbn(m, s, f),
-        Operation::Sbf => logical::sbf(m, s, f),
+        Operation::Tbn => logical::test_bits::<true>(m, s, f),
+        Operation::Tbf => logical::test_bits::<false>(m, s, f),
+        Operation::Sbn => logical::set_bits::<true>(m, s, f),
+        Operation::Sbf => logical::set_bits::<false>(m, s, f),
         Operation::Mvi => logical::mvi(m, s, f),
         Operation::Cli => logical::cli(m, s, f),
         Operation::Sli => logical::sli(m, s, f),
@@ -72,16 +73,6 @@ fn inner(m: &mut Machine, s: &mut [u8]) -> Result<(), Stop>
 
 // ---- the loop: the budget is tested before each fetch
 
-// A run that ended after that many executed steps.
-fn ran(machine: Machine, answer: Answer, steps: u32) -> Ran
-    ensures { result ≡ record { machine = machine; ended = record { answer = answer; steps = steps } } }
-{
-    Ran {
-        machine,
-        ended: Ended { answer, steps },
-    }
-}
-
 #[tactic(auto, unfolding(manual::specs::Run::turns_of))]
 fn turns(m: Machine, s: &mut [u8], budget: u32) -> Ran
     ensures { ran_outcome result s.new ≡ turns_of m s.old budget }
@@ -95,41 +86,53 @@ fn turns(m: Machine, s: &mut [u8], budget: u32) -> Ran
     ran(machine, Answer::Executed, budget)
 }
 
-// ---- published
-
-fn stepped(machine: Machine, answer: Answer) -> Stepped
-    ensures { result ≡ record { machine = machine; answer = answer } }
+// A run that ended after that many executed steps.
+fn ran(machine: Machine, answer: Answer, steps: u32) -> Ran
+    ensures { result ≡ record { machine = machine; ended = record { answer = answer; steps = steps } } }
 {
-    Stepped { machine, answer }
+    Ran {
+        machine,
+        ended: Ended { answer, steps },
+    }
 }
 
-// A step is a run of one turn: the loop of the run is the only caller of `inner`.
-#[tactic(auto, unfolding(manual::specs::Step::step_of, manual::specs::TheMachine::status_allowed), using(manual::proofs::Runs::one_turn))]
+// ---- published
+
+// The tests at entry, in the order of their numbers.
+#[tactic(auto, unfolding(crate::specs::Entry::admitted, manual::specs::TheMachine::budget_allowed, manual::specs::TheMachine::status_allowed))]
+fn admitted(size: usize, budget: u32, status: u8) -> Result<(), Refusal>
+    ensures { result ≡ admitted size budget status }
+{
+    if !parts::size_allowed(size) {
+        return Err(Refusal::SizeRefused);
+    }
+    if 16777216 < budget {
+        return Err(Refusal::BudgetRefused);
+    }
+    if 64 <= status {
+        return Err(Refusal::StatusRefused);
+    }
+    Ok(())
+}
+
+/// A step: a run of one turn.
+#[tactic(auto, using(crate::proofs::Stepping::one_step))]
 pub fn step(m: Machine, s: &mut [u8]) -> Stepped
     ensures { SteppedAs m s.old result s.new }
 {
-    if !parts::size_allowed(s.len()) {
-        return stepped(m, Answer::Refused(Refusal::SizeRefused));
+    let ran = run(m, s, 1);
+    Stepped {
+        machine: ran.machine,
+        answer: ran.ended.answer,
     }
-    if 64 <= m.status {
-        return stepped(m, Answer::Refused(Refusal::StatusRefused));
-    }
-    let t = turns(m, s, 1);
-    stepped(t.machine, t.ended.answer)
 }
 
-#[tactic(auto, unfolding(manual::specs::Run::run_of, manual::specs::TheMachine::budget_allowed, manual::specs::TheMachine::status_allowed))]
+#[tactic(auto, unfolding(manual::specs::Run::run_of, crate::specs::Entry::admitted))]
 pub fn run(m: Machine, s: &mut [u8], budget: u32) -> Ran
     ensures { RanAs m s.old budget result s.new }
 {
-    if !parts::size_allowed(s.len()) {
-        return ran(m, Answer::Refused(Refusal::SizeRefused), 0);
+    match admitted(s.len(), budget, m.status) {
+        Ok(()) => turns(m, s, budget),
+        Err(refusal) => ran(m, Answer::Refused(refusal), 0),
     }
-    if 16777216 < budget {
-        return ran(m, Answer::Refused(Refusal::BudgetRefused), 0);
-    }
-    if 64 <= m.status {
-        return ran(m, Answer::Refused(Refusal::StatusRefused), 0);
-    }
-    turns(m, s, budget)
 }
