@@ -1,3 +1,4 @@
 pub mod Computed
 pub mod Rest
 pub mod Unlisted
+pub mod OverCode

@@ -1,15 +1,16 @@
 -- The opcodes that the decoder doesn't name one by one: of two addresses, or naming nothing.
 use Rattle.std.specs.Prelude.{Option, Some, None}
 use mathlib.Core.Path.{◌≡◌, refl}
-use mathlib.Core.Bool.{true, false, true≢false}
+use mathlib.Core.Bool.{Bool, true, false, true≢false}
 use mathlib.Core.List.{List, [], ◌∷◌}
 use Prim.Native.Nat.{ℕ, ◌/◌, ◌%◌, ◌<◌}
 use lib.Dec.{T}
 use lib.ListN.{get_or}
 use Rattle.manual.specs.declared.Group.{Group}
 use Rattle.manual.specs.declared.Group.TheVariants.{TwoAddress, OneAddress, Branch, Jump}
-use Rattle.manual.specs.Formats.{two_address, form_of, named_of, operation_of}
-use Rattle.decode.specs.Fetching.{is_unknown, is_pair_or, unlisted}
+use Rattle.manual.specs.Formats.{two_address, form_of, named_of, operation_of, allowed}
+use Rattle.decode.specs.Fetching.{is_unknown, is_pair_or, unlisted, allows_named}
+use Rattle.decode.proofs.Computed.{all_below, all_at}
 use Rattle.decode.proofs.Rest.{Rest, Passed, by_rest}
 use Rattle.manual.specs.declared.Operation.{Operation}
 
@@ -52,3 +53,19 @@ all_others = tt
 
 pub others : (o : ℕ) → o < 256 → Rest listed o → T (unlisted o)
 others o h n = by_rest listed unlisted all_others o h n
+
+-- MVX's right digit apart, every Q byte is allowed
+abbrev all_allowed : ℕ → Bool
+all_allowed k = all_below (λ q. allows_named (get_or two_address k None) q) 256
+
+all_free : Passed (8 ∷ []) all_allowed
+unfolding allowed
+all_free = tt
+
+is_true : (b : Bool) → T b → b ≡ true
+is_true true t = refl
+is_true false t = absurd t
+
+pub others_allow : (k q : ℕ) → k < 256 → q < 256 → (k ≡ 8 → ⊥) → allows_named (get_or two_address k None) q ≡ true
+others_allow k q h l n =
+    is_true _ (all_at (λ q. allows_named (get_or two_address k None) q) 256 (by_rest (8 ∷ []) all_allowed all_free k h (tt, n)) q l)

@@ -6,9 +6,10 @@ ghost use Rattle.manual.specs.Formats.{form_of, width_of, allowed, first_base, i
 ghost use Rattle.std.specs.Prelude.{Some, None};
 ghost use Rattle.manual.specs.declared.Base.TheVariants.{Absent};
 ghost use Rattle.manual.specs.declared.Group.TheVariants.{TwoAddress, Jump};
-ghost use Rattle.manual.specs.Decode.{number_at, decode_named, decode_opcode, decode_of};
+ghost use Rattle.manual.specs.Decode.{number_at, decode_of};
 ghost use Rattle.manual.specs.Stops.{address_of};
 ghost use Rattle.decode.specs.Fetching.{fetched_of, allows_named, unlisted};
+ghost use Rattle.decode.specs.Code.{code_named, code_opcode};
 
 use manual::{Base, Form, Group, Machine, Operation};
 
@@ -169,19 +170,19 @@ fn width(b: Base) -> usize
     }
 }
 
-// The address of the operand whose bytes begin at the instruction's k-th.
-fn address(b: Base, m: &Machine, s: &[u8], next: u16, at: usize, k: usize) -> u16
-    requires { (k < 6) × (at + k + width_of b ≤ length s.now) × (at < 65536) }
-    ensures { result ≡ address_of m.now b next (number_at b (λ i. get_or s.now (at + i) 0) k) }
+// The address of the operand whose bytes begin at the code's k-th.
+fn address(b: Base, m: &Machine, code: &[u8], next: u16, k: usize) -> u16
+    requires { (k < 6) × (k + width_of b ≤ length code.now) }
+    ensures { result ≡ address_of m.now b next (number_at b (λ i. get_or code.now i 0) k) }
 {
     match b {
         Base::Absent => 0,
-        Base::Direct => u16::from(s[at + k]) * 256 + u16::from(s[at + (k + 1)]),
-        Base::FromXr1 => m.xr1.wrapping_add(u16::from(s[at + k])),
-        Base::FromXr2 => m.xr2.wrapping_add(u16::from(s[at + k])),
-        Base::FromArr => m.arr.wrapping_add(u16::from(s[at + k])),
-        Base::Forward => next.wrapping_add(u16::from(s[at + k])),
-        Base::Backward => next.wrapping_sub(u16::from(s[at + k])),
+        Base::Direct => u16::from_be_bytes([code[k], code[k + 1]]),
+        Base::FromXr1 => m.xr1.wrapping_add(u16::from(code[k])),
+        Base::FromXr2 => m.xr2.wrapping_add(u16::from(code[k])),
+        Base::FromArr => m.arr.wrapping_add(u16::from(code[k])),
+        Base::Forward => next.wrapping_add(u16::from(code[k])),
+        Base::Backward => next.wrapping_sub(u16::from(code[k])),
     }
 }
 
@@ -218,78 +219,69 @@ fn allowed(op: Operation, q: u8) -> bool
     }
 }
 
-// ---- an instruction, once its opcode is known
+// ---- an instruction, once its opcode is known; `code` is what stands in storage from its opcode on
 
 // One address.
 #[tactic(auto, unfolding(manual::specs::Decode::instruction_of))]
-fn single(op: Operation, form: Form, m: &Machine, s: &[u8], at: usize) -> Fetched
-    requires within { (at < 65536) × (at < length s.now) }
+fn single(op: Operation, form: Form, m: &Machine, code: &[u8]) -> Fetched
     requires holds { (form.second ≡ Absent) × (2 + width_of form.first ≤ form.length) × (3 ≤ form.length) × (form.length < 7) }
-    requires base { first_base form.group form.first (get_or s.now (at + 0) 0 % 16) ≡ form.first }
-    ensures { result ≡ fetched_of m.now (decode_named s.now at form (Some op)) }
+    requires base { first_base form.group form.first (get_or code.now 0 0 % 16) ≡ form.first }
+    ensures { result ≡ fetched_of m.now (code_named m.now.iar form (Some op) code.now) }
 {
-    let length = form.length as usize;
-    if s.len() - at < length {
+    if code.len() < usize::from(form.length) {
         return Fetched::PastStorage;
     }
-    let q = s[at + 1];
+    let q = code[1];
     if !allowed(op, q) {
         return Fetched::QNotAllowed;
     }
-    let next = ((at + length) % 65536) as u16;
-    let a1 = address(form.first, m, s, next, at, 2);
-    Fetched::Go(op, q, s[at + 2], a1, 0, next)
+    let next = m.iar.wrapping_add(u16::from(form.length));
+    let a1 = address(form.first, m, code, next, 2);
+    Fetched::Go(op, q, code[2], a1, 0, next)
 }
 
 // F0, F1, F2 and F4: the third byte counts from a base, and every Q byte is allowed.
 #[tactic(auto, unfolding(manual::specs::Decode::instruction_of, manual::specs::Formats::form_of))]
-fn third(op: Operation, base: Base, m: &Machine, s: &[u8], at: usize) -> Fetched
-    requires within { (at < 65536) × (at < length s.now) }
-    requires base { (width_of base ≤ 1) × (first_base Jump Absent (get_or s.now (at + 0) 0 % 16) ≡ base) }
+fn third(op: Operation, base: Base, m: &Machine, code: &[u8]) -> Fetched
+    requires base { (width_of base ≤ 1) × (first_base Jump Absent (get_or code.now 0 0 % 16) ≡ base) }
     requires free { (q : ℕ) → allowed op q ≡ true }
-    ensures { result ≡ fetched_of m.now (decode_named s.now at (form_of 15) (Some op)) }
+    ensures { result ≡ fetched_of m.now (code_named m.now.iar (form_of 15) (Some op) code.now) }
 {
-    if s.len() - at < 3 {
+    if code.len() < 3 {
         return Fetched::PastStorage;
     }
-    let next = ((at + 3) % 65536) as u16;
-    let a1 = address(base, m, s, next, at, 2);
-    Fetched::Go(op, s[at + 1], s[at + 2], a1, 0, next)
+    let next = m.iar.wrapping_add(3);
+    let a1 = address(base, m, code, next, 2);
+    Fetched::Go(op, code[1], code[2], a1, 0, next)
 }
 
 // Of the operations of two addresses MVX alone refuses some Q bytes. The right digit is asked and not the operation, so that the loop keeps no call here.
-#[tactic(auto, unfolding(manual::specs::Formats::allowed))]
+#[tactic(auto, unfolding(manual::specs::Formats::allowed), using(crate::proofs::Unlisted::others_allow))]
 fn pair_allows(right: u8, q: u8) -> bool
     ensures { result ≡ allows_named (get_or two_address right None) q }
 {
-    match right {
-        8 => q <= 3,
-        4 | 6 | 7 | 10 | 11 | 12 | 13 | 14 | 15 => true,
-        _ => true,
-    }
+    right != 8 || q <= 3
 }
 
 // Two addresses; the operation is the one that the right digit names.
 #[tactic(auto, unfolding(manual::specs::Decode::instruction_of, manual::specs::Formats::first_base))]
-fn double(right: u8, op: Operation, form: Form, m: &Machine, s: &[u8], at: usize) -> Fetched
-    requires within { (at < 65536) × (at < length s.now) }
+fn double(right: u8, op: Operation, form: Form, m: &Machine, code: &[u8]) -> Fetched
     requires named { get_or two_address right None ≡ Some op }
     requires holds { (form.group ≡ TwoAddress) × (2 + width_of form.first + width_of form.second ≤ form.length) × (3 ≤ form.length) × (form.length < 7) }
-    ensures { result ≡ fetched_of m.now (decode_named s.now at form (Some op)) }
+    ensures { result ≡ fetched_of m.now (code_named m.now.iar form (Some op) code.now) }
 {
-    let length = form.length as usize;
-    let left = s.len() - at;
-    if left < length {
+    let length = usize::from(form.length);
+    if code.len() < length {
         return Fetched::PastStorage;
     }
-    let q = s[at + 1];
+    let q = code[1];
     if !pair_allows(right, q) {
         return Fetched::QNotAllowed;
     }
-    let next = ((at + length) % 65536) as u16;
-    let a1 = address(form.first, m, s, next, at, 2);
-    let a2 = address(form.second, m, s, next, at, 2 + width(form.first));
-    Fetched::Go(op, q, s[at + 2], a1, a2, next)
+    let next = m.iar.wrapping_add(u16::from(form.length));
+    let a1 = address(form.first, m, code, next, 2);
+    let a2 = address(form.second, m, code, next, 2 + width(form.first));
+    Fetched::Go(op, q, code[2], a1, a2, next)
 }
 
 // The operations of two addresses, by the right digit.
@@ -313,10 +305,9 @@ fn pair_named(right: u8) -> Option<Operation>
 
 // An opcode that isn't named below: one of two addresses, or unknown.
 #[tactic(auto, unfolding(manual::specs::Formats::named_of), using(crate::proofs::Unlisted::names_nothing, crate::proofs::Unlisted::no_pair))]
-fn pair(opcode: u8, m: &Machine, s: &[u8], at: usize) -> Fetched
-    requires within { (at < 65536) × (at < length s.now) }
-    requires opcode { T (unlisted opcode) }
-    ensures { result ≡ fetched_of m.now (decode_opcode s.now at opcode) }
+fn pair(opcode: u8, m: &Machine, code: &[u8]) -> Fetched
+    requires { T (unlisted opcode) }
+    ensures { result ≡ fetched_of m.now (code_opcode m.now.iar code.now opcode) }
 {
     let right = opcode % 16;
     let Some(op) = pair_named(right) else {
@@ -324,64 +315,75 @@ fn pair(opcode: u8, m: &Machine, s: &[u8], at: usize) -> Fetched
     };
     let form = form_of(opcode / 16);
     match form.group {
-        Group::TwoAddress => double(right, op, form, m, s, at),
+        Group::TwoAddress => double(right, op, form, m, code),
         _ => Fetched::Unnamed,
     }
 }
 
-#[tactic(auto, unfolding(manual::specs::Decode::decode_of, manual::specs::Formats::form_of, manual::specs::Formats::named_of, manual::specs::Formats::first_base, manual::specs::Formats::allowed), using(crate::proofs::Unlisted::others))]
+// The instruction at the front of the code, whose opcode is given.
+#[tactic(auto, unfolding(manual::specs::Formats::form_of, manual::specs::Formats::named_of, manual::specs::Formats::first_base, manual::specs::Formats::allowed), using(crate::proofs::Unlisted::others))]
+fn decode_code(m: &Machine, code: &[u8]) -> Fetched
+    requires { 0 < length code.now }
+    ensures { result ≡ fetched_of m.now (code_opcode m.now.iar code.now (get_or code.now 0 0)) }
+{
+    let opcode = code[0];
+    match opcode {
+        0x34 => single(Operation::St, form_at(3), m, code),
+        0x74 => single(Operation::St, form_at(7), m, code),
+        0xB4 => single(Operation::St, form_at(11), m, code),
+        0x35 => single(Operation::L, form_at(3), m, code),
+        0x75 => single(Operation::L, form_at(7), m, code),
+        0xB5 => single(Operation::L, form_at(11), m, code),
+        0x36 => single(Operation::A, form_at(3), m, code),
+        0x76 => single(Operation::A, form_at(7), m, code),
+        0xB6 => single(Operation::A, form_at(11), m, code),
+        0x37 => single(Operation::S, form_at(3), m, code),
+        0x77 => single(Operation::S, form_at(7), m, code),
+        0xB7 => single(Operation::S, form_at(11), m, code),
+        0x38 => single(Operation::Tbn, form_at(3), m, code),
+        0x78 => single(Operation::Tbn, form_at(7), m, code),
+        0xB8 => single(Operation::Tbn, form_at(11), m, code),
+        0x39 => single(Operation::Tbf, form_at(3), m, code),
+        0x79 => single(Operation::Tbf, form_at(7), m, code),
+        0xB9 => single(Operation::Tbf, form_at(11), m, code),
+        0x3A => single(Operation::Sbn, form_at(3), m, code),
+        0x7A => single(Operation::Sbn, form_at(7), m, code),
+        0xBA => single(Operation::Sbn, form_at(11), m, code),
+        0x3B => single(Operation::Sbf, form_at(3), m, code),
+        0x7B => single(Operation::Sbf, form_at(7), m, code),
+        0xBB => single(Operation::Sbf, form_at(11), m, code),
+        0x3C => single(Operation::Mvi, form_at(3), m, code),
+        0x7C => single(Operation::Mvi, form_at(7), m, code),
+        0xBC => single(Operation::Mvi, form_at(11), m, code),
+        0x3D => single(Operation::Cli, form_at(3), m, code),
+        0x7D => single(Operation::Cli, form_at(7), m, code),
+        0xBD => single(Operation::Cli, form_at(11), m, code),
+        0x3F => single(Operation::Sli, form_at(3), m, code),
+        0x7F => single(Operation::Sli, form_at(7), m, code),
+        0xBF => single(Operation::Sli, form_at(11), m, code),
+        0xC0 => single(Operation::Bc, form_at(12), m, code),
+        0xC2 => single(Operation::La, form_at(12), m, code),
+        0xD0 => single(Operation::Bc, form_at(13), m, code),
+        0xD2 => single(Operation::La, form_at(13), m, code),
+        0xE0 => single(Operation::Bc, form_at(14), m, code),
+        0xE2 => single(Operation::La, form_at(14), m, code),
+        0xF0 => third(Operation::Bc, Base::FromArr, m, code),
+        0xF1 => third(Operation::Jc, Base::Backward, m, code),
+        0xF2 => third(Operation::Jc, Base::Forward, m, code),
+        0xF4 => third(Operation::Svc, Base::Absent, m, code),
+        _ => pair(opcode, m, code),
+    }
+}
+
+/// The instruction at IAR with the addresses of its operands, or how decoding stops: past storage (4) where IAR or a later byte of the instruction
+/// lies there, an opcode that names nothing (5), a Q byte that the operation doesn't allow (6).
+#[tactic(auto, unfolding(manual::specs::Decode::decode_of), using(crate::proofs::OverCode::over_code))]
 pub fn decode(m: &Machine, s: &[u8]) -> Fetched
     ensures { result ≡ fetched_of m.now (decode_of s.now m.now.iar) }
 {
-    let at = m.iar as usize;
+    let at = usize::from(m.iar);
     if s.len() <= at {
         return Fetched::PastStorage;
     }
-    let opcode = s[at];
-    match opcode {
-        0x34 => single(Operation::St, form_at(3), m, s, at),
-        0x74 => single(Operation::St, form_at(7), m, s, at),
-        0xB4 => single(Operation::St, form_at(11), m, s, at),
-        0x35 => single(Operation::L, form_at(3), m, s, at),
-        0x75 => single(Operation::L, form_at(7), m, s, at),
-        0xB5 => single(Operation::L, form_at(11), m, s, at),
-        0x36 => single(Operation::A, form_at(3), m, s, at),
-        0x76 => single(Operation::A, form_at(7), m, s, at),
-        0xB6 => single(Operation::A, form_at(11), m, s, at),
-        0x37 => single(Operation::S, form_at(3), m, s, at),
-        0x77 => single(Operation::S, form_at(7), m, s, at),
-        0xB7 => single(Operation::S, form_at(11), m, s, at),
-        0x38 => single(Operation::Tbn, form_at(3), m, s, at),
-        0x78 => single(Operation::Tbn, form_at(7), m, s, at),
-        0xB8 => single(Operation::Tbn, form_at(11), m, s, at),
-        0x39 => single(Operation::Tbf, form_at(3), m, s, at),
-        0x79 => single(Operation::Tbf, form_at(7), m, s, at),
-        0xB9 => single(Operation::Tbf, form_at(11), m, s, at),
-        0x3A => single(Operation::Sbn, form_at(3), m, s, at),
-        0x7A => single(Operation::Sbn, form_at(7), m, s, at),
-        0xBA => single(Operation::Sbn, form_at(11), m, s, at),
-        0x3B => single(Operation::Sbf, form_at(3), m, s, at),
-        0x7B => single(Operation::Sbf, form_at(7), m, s, at),
-        0xBB => single(Operation::Sbf, form_at(11), m, s, at),
-        0x3C => single(Operation::Mvi, form_at(3), m, s, at),
-        0x7C => single(Operation::Mvi, form_at(7), m, s, at),
-        0xBC => single(Operation::Mvi, form_at(11), m, s, at),
-        0x3D => single(Operation::Cli, form_at(3), m, s, at),
-        0x7D => single(Operation::Cli, form_at(7), m, s, at),
-        0xBD => single(Operation::Cli, form_at(11), m, s, at),
-        0x3F => single(Operation::Sli, form_at(3), m, s, at),
-        0x7F => single(Operation::Sli, form_at(7), m, s, at),
-        0xBF => single(Operation::Sli, form_at(11), m, s, at),
-        0xC0 => single(Operation::Bc, form_at(12), m, s, at),
-        0xC2 => single(Operation::La, form_at(12), m, s, at),
-        0xD0 => single(Operation::Bc, form_at(13), m, s, at),
-        0xD2 => single(Operation::La, form_at(13), m, s, at),
-        0xE0 => single(Operation::Bc, form_at(14), m, s, at),
-        0xE2 => single(Operation::La, form_at(14), m, s, at),
-        0xF0 => third(Operation::Bc, Base::FromArr, m, s, at),
-        0xF1 => third(Operation::Jc, Base::Backward, m, s, at),
-        0xF2 => third(Operation::Jc, Base::Forward, m, s, at),
-        0xF4 => third(Operation::Svc, Base::Absent, m, s, at),
-        _ => pair(opcode, m, s, at),
-    }
+    decode_code(m, &s[at..])
 }
