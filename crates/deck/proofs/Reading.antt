@@ -141,7 +141,7 @@ module _ {deck : List ℕ} {pages at next : ℕ} {whole : ReadAnswer} (l : Readi
 
   -- a record that is not refused
   module _ (e : later_record (drop at deck) pages next (Ok tt) ≡ Ok tt) where
-    cases : (PageAt (drop at deck) pages next × ((Ok tt) ≡ Ok tt)) ⊎ EndAt (drop at deck)
+    cases : (PageAt (drop at deck) pages next × ◌≡◌ {A = ReadAnswer} (Ok tt) (Ok tt)) ⊎ EndAt (drop at deck)
     cases = later_at (drop at deck) pages next (Ok tt) e
 
     pub reading_in : at < length deck

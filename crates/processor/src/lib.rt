@@ -116,7 +116,6 @@ fn admitted(size: usize, budget: u32, status: u8) -> Result<(), Refusal>
 }
 
 /// A step: a run of one turn.
-#[tactic(auto, using(crate::proofs::Stepping::one_step))]
 pub fn step(m: Machine, s: &mut [u8]) -> Stepped
     ensures { SteppedAs m s.old result s.new }
 {

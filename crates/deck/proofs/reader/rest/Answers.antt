@@ -19,15 +19,15 @@ pub returns-in-Err : goal.returns-in-Err
 returns-in-Err c = let l = c.loop-fault.invariant in sym (reading_refused l _ (found _ _ _ _ _ l.inside c.later.ensures ∙ c.in-Err.is))
 
 pub bounds-deck-at : goal.bounds-deck-at
-bounds-deck-at c = let l = c.loop-fault.invariant in reading_in l (found _ _ _ _ _ l.inside c.later.ensures ∙ c.in-(Ok tt).is)
+bounds-deck-at c = let l = c.loop-fault.invariant in reading_in l (found _ _ _ _ _ l.inside c.later.ensures ∙ c.in-Ok.is)
 
 pub returns-then-deck-at-ne2 : goal.returns-then-deck-at-ne2
 returns-then-deck-at-ne2 c =
     let l = c.loop-fault.invariant in
-    sym (reading_end l (found _ _ _ _ _ l.inside c.later.ensures ∙ c.in-(Ok tt).is) c.if-deck-at-ne2.true)
+    sym (reading_end l (found _ _ _ _ _ l.inside c.later.ensures ∙ c.in-Ok.is) c.if-deck-at-ne2.true)
 
-pub bounds-deck-at-in-(Ok tt) : goal.bounds-deck-at-in-(Ok tt)
-bounds-deck-at-in-(Ok tt) c =
+pub bounds-deck-at-in-Ok : goal.bounds-deck-at-in-Ok
+bounds-deck-at-in-Ok c =
     let l = c.loop-fault.invariant in
-    let f = reading_fits l (found _ _ _ _ _ l.inside c.later.ensures ∙ c.in-(Ok tt).is) c.if-deck-at-ne2.false in
+    let f = reading_fits l (found _ _ _ _ _ l.inside c.later.ensures ∙ c.in-Ok.is) c.if-deck-at-ne2.false in
     omega arith
