@@ -73,6 +73,8 @@ fn inner(m: &mut Machine, s: &mut [u8]) -> Result<(), Stop>
 
 // ---- the loop: the budget is tested before each fetch
 
+// A call of its own: within `run` the compiler gives the loop a sixth more instructions.
+#[inline(never)]
 #[tactic(auto, unfolding(manual::specs::Run::turns_of))]
 fn turns(m: Machine, s: &mut [u8], budget: u32) -> Ran
     ensures { ran_outcome result s.new ≡ turns_of m s.old budget }
