@@ -1,38 +1,69 @@
 // MVC, CLC, ALC, SLC: two fields of one length.
 ghost use Rattle.std.specs.Prelude.{◌≡◌, ◌⊎◌, ◌+◌, ◌-◌, ◌*◌, ◌/◌, ◌%◌, ◌<◌, ◌≤◌, length, set};
+ghost use Rattle.manual.specs.Programs.{and_then};
+ghost use Rattle.manual.specs.Formats.{reach};
 ghost use Rattle.manual.specs.TheMachine.{order_of};
 ghost use Rattle.manual.specs.Values.{bytes_of, number};
 ghost use Rattle.manual.specs.Logical.{copy, mvc, clc, columns, fresh, alc, slc};
 ghost use Rattle.manual.specs.Step.{Gives};
 ghost use Rattle.parts.specs.Leaf.{Does};
 ghost use Rattle.logical.specs.Columns.{column_of, taken, over_of};
+ghost use Rattle.logical.specs.Pairs.{operands_of, Within};
 
 use manual::{Columns, Fields, Machine, Stop};
 use parts::{difference_status, reach, set_order, sum_status};
 use std::cmp::Ordering;
 
-// ---- MVC
+// Two operands of one length; each address is that of the rightmost byte.
+#[derive(Clone, Copy)]
+struct Operands {
+    a: usize,
+    b: usize,
+    n: usize,
+}
 
-// n bytes from the right, one by one.
-#[tactic(auto, using(crate::proofs::Turns::copy_start, crate::proofs::Turns::copy_turn, crate::proofs::Turns::copy_end))]
-fn copy_left(s: &mut [u8], a: usize, b: usize, n: usize)
-    requires first { (a < length s.old) × (n ≤ a + 1) }
-    requires second { (b < length s.old) × (n ≤ b + 1) }
-    ensures { Gives (copy n a b) s.old tt s.new }
-{
-    for i in 0..n {
-        s[a - i] = s[b - i];
+impl Operands {
+    // Those of an instruction whose Q byte is their length less 1.
+    fn of(f: Fields) -> Operands
+        ensures { result ≡ operands_of f }
+    {
+        Operands {
+            a: usize::from(f.a1),
+            b: usize::from(f.a2),
+            n: usize::from(f.q) + 1,
+        }
+    }
+
+    // 7 where one isn't wholly in storage.
+    #[tactic(auto, unfolding(manual::specs::Programs::and_then))]
+    fn reach(self, size: usize) -> Result<(), Stop>
+        ensures { result ≡ and_then (reach size self.n self.a) (reach size self.n self.b) }
+    {
+        reach(size, self.n, self.a)?;
+        reach(size, self.n, self.b)
     }
 }
 
-#[tactic(auto, unfolding(manual::specs::Logical::mvc), using(parts::proofs::Ways::leaves))]
+// ---- MVC
+
+// Byte by byte from the right.
+#[tactic(auto, using(crate::proofs::Turns::copy_start, crate::proofs::Turns::copy_turn, crate::proofs::Turns::copy_end))]
+fn copy_left(s: &mut [u8], p: Operands)
+    requires { Within p (length s.old) }
+    ensures { Gives (copy p.n p.a p.b) s.old tt s.new }
+{
+    for i in 0..p.n {
+        s[p.a - i] = s[p.b - i];
+    }
+}
+
+#[tactic(auto, unfolding(manual::specs::Logical::mvc), using(parts::proofs::Ways::pairs))]
 pub fn mvc(m: &mut Machine, s: &mut [u8], f: Fields) -> Result<(), Stop>
     ensures { Does (mvc f) m.old s.old result m.new s.new }
 {
-    let (a, b, n) = (usize::from(f.a1), usize::from(f.a2), usize::from(f.q) + 1);
-    reach(s.len(), n, a)?;
-    reach(s.len(), n, b)?;
-    copy_left(s, a, b, n);
+    let p = Operands::of(f);
+    p.reach(s.len())?;
+    copy_left(s, p);
     m.iar = f.next;
     Ok(())
 }
@@ -40,27 +71,25 @@ pub fn mvc(m: &mut Machine, s: &mut [u8], f: Fields) -> Result<(), Stop>
 // ---- CLC
 
 // The order of two fields as numbers is that of their bytes from the left.
-fn field_order(s: &[u8], a: usize, b: usize, n: usize) -> u8
-    requires first { (a < length s.now) × (n ≤ a + 1) }
-    requires second { (b < length s.now) × (n ≤ b + 1) }
-    ensures order { result ≡ order_of (number (bytes_of s.now n a)) (number (bytes_of s.now n b)) }
+fn field_order(s: &[u8], p: Operands) -> u8
+    requires { Within p (length s.now) }
+    ensures order { result ≡ order_of (number (bytes_of s.now p.n p.a)) (number (bytes_of s.now p.n p.b)) }
     ensures bound { result < 8 }
 {
-    match s[a + 1 - n..a + 1].cmp(&s[b + 1 - n..b + 1]) {
+    match s[p.a + 1 - p.n..p.a + 1].cmp(&s[p.b + 1 - p.n..p.b + 1]) {
         Ordering::Equal => 1,
         Ordering::Less => 2,
         Ordering::Greater => 4,
     }
 }
 
-#[tactic(auto, unfolding(manual::specs::Logical::clc), using(parts::proofs::Ways::leaves))]
+#[tactic(auto, unfolding(manual::specs::Logical::clc), using(parts::proofs::Ways::pairs))]
 pub fn clc(m: &mut Machine, s: &[u8], f: Fields) -> Result<(), Stop>
     ensures { Does (clc f) m.old s.now result m.new s.now }
 {
-    let (a, b, n) = (usize::from(f.a1), usize::from(f.a2), usize::from(f.q) + 1);
-    reach(s.len(), n, a)?;
-    reach(s.len(), n, b)?;
-    m.status = set_order(field_order(s, a, b, n), m.status);
+    let p = Operands::of(f);
+    p.reach(s.len())?;
+    m.status = set_order(field_order(s, p), m.status);
     m.iar = f.next;
     Ok(())
 }
@@ -98,10 +127,14 @@ fn put_four(s: &mut [u8], a: usize, v: usize)
 }
 
 // How many times four columns may be taken at once: not where a byte of operand 2 is a result of the three columns before it.
-fn by_fours(a: usize, b: usize, n: usize) -> usize
-    ensures { (4 * result ≤ n) × ((result ≡ 0) ⊎ ((b ≤ a) ⊎ (a + 4 ≤ b))) }
+fn by_fours(p: Operands) -> usize
+    ensures { (4 * result ≤ p.n) × ((result ≡ 0) ⊎ ((p.b ≤ p.a) ⊎ (p.a + 4 ≤ p.b))) }
 {
-    if b <= a || 4 <= b - a { n / 4 } else { 0 }
+    if p.b <= p.a || 4 <= p.b - p.a {
+        p.n / 4
+    } else {
+        0
+    }
 }
 
 // What is added for operand 2: its number, or where LESS what that lacks of all ones.
@@ -120,20 +153,19 @@ fn over_of<const LESS: bool>(carry: usize) -> usize
     if LESS { 1 - carry } else { carry }
 }
 
-// 4 * n columns, four at once.
+// The first 4 * k columns, four at once.
 #[tactic(auto, using(crate::proofs::Turns::so_far_from, crate::proofs::Turns::so_far_is, crate::proofs::Fours::fours_turn, crate::proofs::Turns::columns_end_val, crate::proofs::Turns::columns_end_fin))]
-fn fours<const LESS: bool>(s: &mut [u8], a: usize, b: usize, n: usize) -> Columns
-    requires first { (a < length s.old) × (4 * n ≤ a + 1) }
-    requires second { (b < length s.old) × (4 * n ≤ b + 1) }
-    requires apart { (n ≡ 0) ⊎ ((b ≤ a) ⊎ (a + 4 ≤ b)) }
-    ensures { Gives (columns (column_of LESS) (4 * n) a b fresh) s.old result s.new × (result.over ≤ 1) }
+fn fours<const LESS: bool>(s: &mut [u8], p: Operands, k: usize) -> Columns
+    requires within { Within p (length s.old) × (4 * k ≤ p.n) }
+    requires apart { (k ≡ 0) ⊎ ((p.b ≤ p.a) ⊎ (p.a + 4 ≤ p.b)) }
+    ensures { Gives (columns (column_of LESS) (4 * k) p.a p.b fresh) s.old result s.new × (result.over ≤ 1) }
 {
     let mut carry = over_of::<LESS>(0);
     let mut clear = true;
-    for i in 0..n {
-        let t = four(s, a - 4 * i) + taken::<LESS>(4294967295, four(s, b - 4 * i)) + carry;
+    for i in 0..k {
+        let t = four(s, p.a - 4 * i) + taken::<LESS>(4294967295, four(s, p.b - 4 * i)) + carry;
         let low = t % 4294967296;
-        put_four(s, a - 4 * i, low);
+        put_four(s, p.a - 4 * i, low);
         carry = t / 4294967296;
         clear &= low == 0;
     }
@@ -143,27 +175,19 @@ fn fours<const LESS: bool>(s: &mut [u8], a: usize, b: usize, n: usize) -> Column
     }
 }
 
-// The columns of n that are left after the first ones.
+// The columns that are left after the first ones.
 #[tactic(auto, using(crate::proofs::Turns::so_far_from, crate::proofs::Turns::so_far_is, crate::proofs::Turns::ones_turn, crate::proofs::Turns::columns_end_val, crate::proofs::Turns::columns_end_fin))]
-fn ones<const LESS: bool>(
-    s: &mut [u8],
-    a: usize,
-    b: usize,
-    n: usize,
-    from: usize,
-    c: Columns,
-) -> Columns
-    requires first { (a < length s.old) × (n ≤ a + 1) }
-    requires second { (b < length s.old) × (n ≤ b + 1) }
-    requires start { (from ≤ n) × (c.over ≤ 1) }
-    ensures { Gives (columns (column_of LESS) (n - from) (a - from) (b - from) c) s.old result s.new }
+fn ones<const LESS: bool>(s: &mut [u8], p: Operands, from: usize, c: Columns) -> Columns
+    requires within { Within p (length s.old) }
+    requires start { (from ≤ p.n) × (c.over ≤ 1) }
+    ensures { Gives (columns (column_of LESS) (p.n - from) (p.a - from) (p.b - from) c) s.old result s.new }
 {
     let mut carry = over_of::<LESS>(c.over);
     let mut clear = c.clear;
-    for i in from..n {
-        let t = usize::from(s[a - i]) + taken::<LESS>(255, usize::from(s[b - i])) + carry;
+    for i in from..p.n {
+        let t = usize::from(s[p.a - i]) + taken::<LESS>(255, usize::from(s[p.b - i])) + carry;
         let low = t % 256;
-        s[a - i] = low as u8;
+        s[p.a - i] = low as u8;
         carry = t / 256;
         clear &= low == 0;
     }
@@ -173,36 +197,33 @@ fn ones<const LESS: bool>(
     }
 }
 
-fn left<const LESS: bool>(s: &mut [u8], a: usize, b: usize, n: usize) -> Columns
-    requires first { (a < length s.old) × (n ≤ a + 1) }
-    requires second { (b < length s.old) × (n ≤ b + 1) }
-    ensures { Gives (columns (column_of LESS) n a b fresh) s.old result s.new }
+fn left<const LESS: bool>(s: &mut [u8], p: Operands) -> Columns
+    requires { Within p (length s.old) }
+    ensures { Gives (columns (column_of LESS) p.n p.a p.b fresh) s.old result s.new }
 {
-    let m = by_fours(a, b, n);
-    let c = fours::<LESS>(s, a, b, m);
-    ones::<LESS>(s, a, b, n, 4 * m, c)
+    let k = by_fours(p);
+    let c = fours::<LESS>(s, p, k);
+    ones::<LESS>(s, p, 4 * k, c)
 }
 
-#[tactic(auto, unfolding(manual::specs::Logical::alc), using(parts::proofs::Ways::leaves))]
+#[tactic(auto, unfolding(manual::specs::Logical::alc), using(parts::proofs::Ways::pairs))]
 pub fn alc(m: &mut Machine, s: &mut [u8], f: Fields) -> Result<(), Stop>
     ensures { Does (alc f) m.old s.old result m.new s.new }
 {
-    let (a, b, n) = (usize::from(f.a1), usize::from(f.a2), usize::from(f.q) + 1);
-    reach(s.len(), n, a)?;
-    reach(s.len(), n, b)?;
-    m.status = sum_status(m.status, left::<false>(s, a, b, n));
+    let p = Operands::of(f);
+    p.reach(s.len())?;
+    m.status = sum_status(m.status, left::<false>(s, p));
     m.iar = f.next;
     Ok(())
 }
 
-#[tactic(auto, unfolding(manual::specs::Logical::slc), using(parts::proofs::Ways::leaves))]
+#[tactic(auto, unfolding(manual::specs::Logical::slc), using(parts::proofs::Ways::pairs))]
 pub fn slc(m: &mut Machine, s: &mut [u8], f: Fields) -> Result<(), Stop>
     ensures { Does (slc f) m.old s.old result m.new s.new }
 {
-    let (a, b, n) = (usize::from(f.a1), usize::from(f.a2), usize::from(f.q) + 1);
-    reach(s.len(), n, a)?;
-    reach(s.len(), n, b)?;
-    m.status = difference_status(m.status, left::<true>(s, a, b, n));
+    let p = Operands::of(f);
+    p.reach(s.len())?;
+    m.status = difference_status(m.status, left::<true>(s, p));
     m.iar = f.next;
     Ok(())
 }

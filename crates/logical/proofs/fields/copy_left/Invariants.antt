@@ -5,4 +5,4 @@ use Rattle.logical.proofs.fields.copy_left.Given as goal
 
 -- what is left to copy gives what the whole copy gives
 abbrev pub invariant-loop-i : goal.invariant-loop-i
-invariant-loop-i l = record { leads : Leads (copy l.n l.a l.b) l.fn.s (copy (l.n - l.i) (l.a - l.i) (l.b - l.i)) l.s }
+invariant-loop-i l = record { leads : Leads (copy l.p.n l.p.a l.p.b) l.fn.s (copy (l.p.n - l.i) (l.p.a - l.i) (l.p.b - l.i)) l.s }

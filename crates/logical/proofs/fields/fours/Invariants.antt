@@ -14,6 +14,6 @@ invariant-loop-i g l =
     record {
       carry : l.carry ≤ 1;
       bytes : Bytes l.s;
-      leads : Leads (columns (column_of less) (4 * l.n) l.a l.b fresh) l.fn.s
-          (columns (column_of less) (4 * l.n - 4 * l.i) (l.a - 4 * l.i) (l.b - 4 * l.i) (so_far less l.carry l.clear)) l.s;
+      leads : Leads (columns (column_of less) (4 * l.k) l.p.a l.p.b fresh) l.fn.s
+          (columns (column_of less) (4 * l.k - 4 * l.i) (l.p.a - 4 * l.i) (l.p.b - 4 * l.i) (so_far less l.carry l.clear)) l.s;
     }

@@ -3,4 +3,4 @@ use Rattle.logical.proofs.Fours.{columns_on}
 use Rattle.logical.proofs.fields.left.Goals as goal
 
 pub returns : goal.returns
-returns g c = columns_on _ _ (4 * _) _ _ _ _ _ _ c.by_fours-m.ensures.0 c.fours-c.ensures.0 _ _ c.ones.ensures
+returns g c = columns_on _ _ (4 * _) _ _ _ _ _ _ c.by_fours-k.ensures.0 c.fours-c.ensures.0 _ _ c.ones.ensures

@@ -12,6 +12,6 @@ invariant-loop-i g l =
     let less = LESS-type (number g.row.LESS) in
     record {
       carry : l.carry ≤ 1;
-      leads : Leads (columns (column_of less) (l.n - l.from) (l.a - l.from) (l.b - l.from) l.fn.c) l.fn.s
-          (columns (column_of less) (l.n - l.i) (l.a - l.i) (l.b - l.i) (so_far less l.carry l.clear)) l.s;
+      leads : Leads (columns (column_of less) (l.p.n - l.from) (l.p.a - l.from) (l.p.b - l.from) l.fn.c) l.fn.s
+          (columns (column_of less) (l.p.n - l.i) (l.p.a - l.i) (l.p.b - l.i) (so_far less l.carry l.clear)) l.s;
     }
