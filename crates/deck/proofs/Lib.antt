@@ -1,3 +1,3 @@
 pub mod Zeros
-pub mod Writing
 pub mod Reading
+pub mod Writing

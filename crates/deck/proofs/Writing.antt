@@ -1,47 +1,96 @@
 -- The turns of the writer's loops, and the parts of a deck put one behind the other. What carries it: bytes put right behind others (`over_over`).
-use Prim.Native.Nat.{ℕ, ◌+◌, ◌≤◌, ◌<◌, ◌-◌, ◌/◌}
-use mathlib.Core.Bool.{false}
-use mathlib.Core.List.{List, [], ◌∷◌, ◌++◌}
-use mathlib.Core.Path.{◌≡◌, ◌∙◌}
-use native.Mathlib.Omega.{arith}
-use lib.ListN.{length, set, length-append}
+use Rattle.std.proofs.Common.{◌≡◌, ℕ, zero, suc, ◌+◌, ◌*◌, ◌/◌, ◌<◌, ◌≤◌, List, [], ◌∷◌, ◌++◌, length, take, drop, Bool, true, false, cond, refl, ap, sym, ◌∙◌, arith, length-append, length-take}
+use lib.ListN.{set}
+use lib.Seq.{take_at, drop_at}
+use borrow.Rule.Slice.PartMut.{put_mid}
+use Rattle.std.proofs.lemmas.Slice.{put_mid-paste}
 use Rattle.manual.specs.declared.Machine.{Machine}
 use Rattle.manual.specs.Deck.{all_zero, machine_record, page_record, page_records, deck_of, over}
-use Rattle.manual.proofs.Pages.{length_over, over_over, over_one, record_length_lem, pages_from, page_at, pages_more}
+use Rattle.manual.proofs.Pages.{length_over, over_none, over_over, over_one, paste_all, record_length_lem}
 use Rattle.manual.proofs.Decks.{length_parts}
 
--- the length of a part of 256 bytes
-pub span : (a : ℕ) → a + 256 - a ≡ 256
-span a = omega arith
+-- a part of a list, written over
+pub put_over : (at n : ℕ) (s t bytes : List ℕ) → t ≡ bytes → n ≡ length bytes → put_mid at n s t ≡ over s at bytes
+put_over at n s t bytes e l = put_mid-paste at n s t bytes n e refl l ∙ rw l (paste_all s at bytes)
 
 -- where a page's record fits, its 258 bytes do
 pub record_room : (k at n : ℕ) (page : List ℕ) → all_zero page ≡ false → (length page ≡ 256) × (at + length (page_record k page) ≤ n) → at + 258 ≤ n
 record_room k at n page b h = let f = rw b at h.1 in omega arith
 
-module _ (s : List ℕ) (count k : ℕ) (h : k < count) where
-  pub pages_length : length (pages_from s count k) ≡ length (page_record 0 (page_at s k)) + length (pages_from s count (k + 1))
-  pages_length = rw (pages_more s count k h, length-append, record_length_lem k (page_at s k))
+-- ---- a page, and the pages behind it
 
-  -- a page's record and then the others are all the records from that page on
-  pub over_page : (out : List ℕ) (at : ℕ) → at + length (pages_from s count k) ≤ length out
-      → over (over out at (page_record k (page_at s k))) (at + length (page_record k (page_at s k))) (pages_from s count (k + 1)) ≡ over out at (pages_from s count k)
-  over_page out at fits =
-      let l = pages_length in
-      let r = record_length_lem k (page_at s k) in
-      over_over out at (page_record k (page_at s k)) (omega arith) (pages_from s count (k + 1)) ∙ rw (← (pages_more s count k h))
+module _ (s page rest : List ℕ) (l : length page ≡ 256) (e : s ≡ page ++ rest) where
+  records_turn : (k : ℕ) → page_records (length s / 256) k s ≡ page_record k page ++ page_records (length rest / 256) (k + 1) rest
+  unfolding page_records
+  records_turn k =
+      let z : length s / 256 ≡ suc (length rest / 256) = omega (arith, simp length-append at (ap length e)) in
+      rw (z, e, take_at page rest 256 l, drop_at page rest 256 l)
+
+  pub length_turn : (k : ℕ) → length (page_records (length s / 256) k s) ≡ length (page_record k page) + length (page_records (length rest / 256) (k + 1) rest)
+  length_turn k = rw (records_turn k) (length-append (page_record k page) _)
+
+pub records_done : (s : List ℕ) (k : ℕ) → length s < 256 → page_records (length s / 256) k s ≡ []
+unfolding page_records
+records_done s k h = let z : length s / 256 ≡ 0 = omega arith in rw z
+
+-- a page's record has at most 258 bytes
+page_most : (k : ℕ) (s : List ℕ) → length (page_record k (take 256 s)) ≤ 258
+page_most k s = go (all_zero (take 256 s)) where
+  go : (b : Bool) → length (cond b [] (0x02 ∷ k ∷ take 256 s)) ≤ 258
+  go true = omega arith
+  go false = omega (arith, length-take {A = ℕ} 256 s)
+
+pub records_most : (n k : ℕ) (s : List ℕ) → length (page_records n k s) ≤ 258 * n
+unfolding page_records
+records_most zero k s = omega arith
+records_most (suc n) k s = let a = page_most k s in simp length-append (omega (arith, records_most n (k + 1) (drop 256 s)))
+
+-- a page's number doesn't count for the length
+pub same_length : (n k j : ℕ) (s : List ℕ) → length (page_records n k s) ≡ length (page_records n j s)
+unfolding page_records
+same_length zero k j s = refl
+same_length (suc n) k j s =
+    let a = record_length_lem k (take 256 s) in
+    let b = record_length_lem j (take 256 s) in
+    simp length-append (omega (arith, same_length n (k + 1) (j + 1) (drop 256 s)))
+
+-- The records of what is left, put at `at` over the output as it is now, give the whole, and end at `end`.
+pub record Writing (s out whole : List ℕ) (k at end : ℕ) : Type 0 where
+  pub place : at + length (page_records (length s / 256) k s) ≡ end
+  pub is : over out at (page_records (length s / 256) k s) ≡ whole
+
+pub writing_end : {s out whole : List ℕ} {k at end : ℕ} → Writing s out whole k at end → length s < 256 → (at ≡ end) × (out ≡ whole)
+writing_end {s} {out} {whole} {k} {at} {end} w h =
+    let d = records_done s k h in
+    let p = rw d at w.place in
+    (omega arith, sym (over_none out at) ∙ rw d at w.is)
+
+module _ {s out whole : List ℕ} {k at end : ℕ} (page rest : List ℕ) (w : Writing s out whole k at end) (l : length page ≡ 256) (e : s ≡ page ++ rest) (fits : end ≤ length out) where
+  pub writing_room : at + length (page_record k page) ≤ length out
+  writing_room = omega (arith, length_turn s page rest l e k, w.place)
+
+  pub writing_turn : {out' : List ℕ} {k' at' : ℕ} → out' ≡ over out at (page_record k page) → at' ≡ at + length (page_record k page) → k' ≡ k + 1
+      → Writing rest out' whole k' at' end
+  writing_turn o a n =
+      record {
+        place = rw (a, n) (omega (arith, length_turn s page rest l e k, w.place));
+        is = rw (o, a, n) (over_over out at (page_record k page) writing_room _ ∙ rw (← (records_turn s page rest l e k)) w.is);
+      }
 
 -- the three parts of a deck, put one behind the other
-pub deck_over : (m : Machine) (s out : List ℕ) → length (deck_of m s) ≤ length out
-    → set (over (over out 0 (machine_record (length s / 256) m)) 19 (page_records (length s / 256) 0 s)) (19 + length (page_records (length s / 256) 0 s)) 0x03
-    ≡ over out 0 (deck_of m s)
+pub deck_over : (m : Machine) (s out head paged : List ℕ) (end : ℕ) → length (deck_of m s) ≤ length out
+    → head ≡ machine_record (length s / 256) m
+    → paged ≡ over (head ++ drop 19 out) 19 (page_records (length s / 256) 0 s)
+    → end ≡ 19 + length (page_records (length s / 256) 0 s)
+    → set paged end 0x03 ≡ over out 0 (deck_of m s)
 unfolding deck_of machine_record
-deck_over m s out h =
+deck_over m s out head paged end h a b c =
     let r = machine_record (length s / 256) m in
     let p = page_records (length s / 256) 0 s in
     let l = length_parts m s in
-    let f : 0 + length r ≤ length out = omega arith in
     let g : 0 + length (r ++ p) ≤ length out = omega arith in
     let z : 0 + length (r ++ p) ≡ 19 + length p = omega arith in
-    let e : over (over out 0 r) 19 p ≡ over out 0 (r ++ p) = over_over out 0 r f p in
     let k = length_over out 0 (r ++ p) g in
-    rw e (over_one (over out 0 (r ++ p)) (19 + length p) 0x03 (omega arith) ∙ rw z at (over_over out 0 (r ++ p) g (0x03 ∷ [])))
+    let d : head ++ drop 19 out ≡ over out 0 r = unfold over in ap (λ (x : List ℕ). x ++ drop 19 out) a in
+    let e : over (over out 0 r) 19 p ≡ over out 0 (r ++ p) = over_over out 0 r (omega arith) p in
+    rw (b, c, d, e) (over_one (over out 0 (r ++ p)) (19 + length p) 0x03 (omega arith) ∙ rw z at (over_over out 0 (r ++ p) g (0x03 ∷ [])))

@@ -1,35 +1,22 @@
-// The record 01, and the lengths of records.
+// Records: the machine's, and what makes a page one.
 ghost use Rattle.std.specs.Prelude.{◌≡◌, ◌≤◌, length};
-ghost use Rattle.manual.specs.Deck.{record_length, machine_in, machine_record, zeroed};
+ghost use Rattle.manual.specs.Deck.{all_zero, machine_in, machine_record, word};
 
-use crate::bytes;
 use manual::Machine;
 
-pub(crate) fn zeroed() -> Machine
-    ensures { result ≡ zeroed }
-{
-    let wr = [0u16; 4];
-    Machine {
-        iar: 0,
-        arr: 0,
-        xr1: 0,
-        xr2: 0,
-        wr,
-        status: 0,
-    }
-}
+/// The bytes of a page.
+pub(crate) const PAGE: usize = 256;
 
-// The length of a record, by its kind.
-pub(crate) fn record_length(kind: u8) -> usize
-    ensures { result ≡ record_length kind }
+/// Whether every byte is zero.
+#[tactic(auto, using(crate::proofs::Zeros::zero_turn, crate::proofs::Zeros::zero_end))]
+pub(crate) fn all_zero(page: &[u8]) -> bool
+    ensures { result ≡ all_zero page.now }
 {
-    if kind == 1 {
-        return 19;
+    let mut clear = true;
+    for b in page {
+        clear &= *b == 0;
     }
-    if kind == 2 {
-        return 258;
-    }
-    1
+    clear
 }
 
 // The machine of the record 01 at the front of `d`.
@@ -38,20 +25,26 @@ pub(crate) fn machine_in(d: &[u8]) -> Machine
     requires { 19 ≤ length d.now }
     ensures { result ≡ machine_in d.now }
 {
-    let wr = [
-        bytes::word(d, 10),
-        bytes::word(d, 12),
-        bytes::word(d, 14),
-        bytes::word(d, 16),
-    ];
     Machine {
-        iar: bytes::word(d, 2),
-        arr: bytes::word(d, 4),
-        xr1: bytes::word(d, 6),
-        xr2: bytes::word(d, 8),
-        wr,
+        iar: u16::from_be_bytes([d[2], d[3]]),
+        arr: u16::from_be_bytes([d[4], d[5]]),
+        xr1: u16::from_be_bytes([d[6], d[7]]),
+        xr2: u16::from_be_bytes([d[8], d[9]]),
+        wr: [
+            u16::from_be_bytes([d[10], d[11]]),
+            u16::from_be_bytes([d[12], d[13]]),
+            u16::from_be_bytes([d[14], d[15]]),
+            u16::from_be_bytes([d[16], d[17]]),
+        ],
         status: d[18],
     }
+}
+
+// The bytes of a word, the high one first. Its own function, so that the range of the word is known.
+fn word(v: u16) -> [u8; 2]
+    ensures { result ≡ word v }
+{
+    v.to_be_bytes()
 }
 
 // The record 01 of a machine with this many pages.
@@ -61,26 +54,33 @@ pub(crate) fn machine_record(pages: usize, m: Machine) -> [u8; 19]
     requires le_pages { 1 ≤ pages }
     ensures { result ≡ machine_record pages m }
 {
-    let wr = m.wr;
+    let iar = word(m.iar);
+    let arr = word(m.arr);
+    let xr1 = word(m.xr1);
+    let xr2 = word(m.xr2);
+    let wr4 = word(m.wr[0]);
+    let wr5 = word(m.wr[1]);
+    let wr6 = word(m.wr[2]);
+    let wr7 = word(m.wr[3]);
     [
         1,
         (pages - 1) as u8,
-        (m.iar / 256) as u8,
-        (m.iar % 256) as u8,
-        (m.arr / 256) as u8,
-        (m.arr % 256) as u8,
-        (m.xr1 / 256) as u8,
-        (m.xr1 % 256) as u8,
-        (m.xr2 / 256) as u8,
-        (m.xr2 % 256) as u8,
-        bytes::high(wr[0]),
-        (wr[0] % 256) as u8,
-        bytes::high(wr[1]),
-        (wr[1] % 256) as u8,
-        bytes::high(wr[2]),
-        (wr[2] % 256) as u8,
-        bytes::high(wr[3]),
-        (wr[3] % 256) as u8,
+        iar[0],
+        iar[1],
+        arr[0],
+        arr[1],
+        xr1[0],
+        xr1[1],
+        xr2[0],
+        xr2[1],
+        wr4[0],
+        wr4[1],
+        wr5[0],
+        wr5[1],
+        wr6[0],
+        wr6[1],
+        wr7[0],
+        wr7[1],
         m.status,
     ]
 }

@@ -1,7 +1,6 @@
 // The deck reader and writer, PUBLISHED: no `requires`, and one statement each that determines the answer, the machine and every lent byte.
 #![tactic(auto)]
 
-mod bytes;
 mod format;
 mod reader;
 mod writer;
@@ -10,34 +9,28 @@ ghost use Rattle.std.specs.Prelude.{◌≡◌, cond, length};
 ghost use Rattle.manual.specs.TheMachine.{size_allowed};
 ghost use Rattle.manual.specs.Deck.{ReadAs, WroteAs, deck_of};
 
-use manual::{DeckFault, DeckOut, Machine, WriteFault};
+use manual::{DeckOut, Machine, WriteFault};
 
-// Reads a deck into the storage `s`. A refusal returns a zeroed machine and leaves the storage: the deck is checked whole before anything is stored.
+/// Reads a deck into the storage `s`. A refusal returns a zeroed machine and leaves the storage: the deck is checked whole before anything is stored.
 #[tactic(auto, unfolding(manual::specs::Deck::read_of, manual::specs::Deck::storage_in), using(manual::proofs::DeckRecords::accepted))]
 pub fn read(deck: &[u8], s: &mut [u8]) -> DeckOut
     ensures { ReadAs deck.now s.old result s.new }
 {
-    match reader::verdict(deck, s.len()) {
-        Err(fault) => {
-            let machine = format::zeroed();
-            DeckOut {
-                machine,
-                answer: Err(fault),
-            }
-        }
-        Ok(()) => {
-            bytes::clear(s);
-            reader::lay_pages(deck, s);
-            let machine = format::machine_in(deck);
-            DeckOut {
-                machine,
-                answer: Ok(()),
-            }
-        }
+    if let Err(fault) = reader::verdict(deck, s.len()) {
+        return DeckOut {
+            machine: Machine::default(),
+            answer: Err(fault),
+        };
+    }
+    s.fill(0);
+    reader::lay_pages(deck, s);
+    DeckOut {
+        machine: format::machine_in(deck),
+        answer: Ok(()),
     }
 }
 
-// Writes the deck of a machine and its storage to the front of `out`. A refusal leaves the output.
+/// Writes the deck of a machine and its storage to the front of `out`, and returns its length. A refusal leaves the output.
 #[tactic(auto, unfolding(manual::specs::Deck::write_of, manual::specs::TheMachine::status_allowed), using(manual::proofs::Decks::length_parts))]
 pub fn write(m: Machine, s: &[u8], out: &mut [u8]) -> Result<usize, WriteFault>
     ensures { WroteAs m s.now out.old result out.new }
@@ -45,7 +38,7 @@ pub fn write(m: Machine, s: &[u8], out: &mut [u8]) -> Result<usize, WriteFault>
     if !parts::size_allowed(s.len()) {
         return Err(WriteFault::SizeNotAllowed);
     }
-    if 64 <= m.status {
+    if m.status >= 64 {
         return Err(WriteFault::StatusNotWritable);
     }
     let n = writer::deck_length(s);
@@ -56,7 +49,7 @@ pub fn write(m: Machine, s: &[u8], out: &mut [u8]) -> Result<usize, WriteFault>
     Ok(n)
 }
 
-// The room that the deck of a machine and its storage needs; 0 where the size isn't allowed.
+/// The room in bytes that the deck of a machine and its storage needs; 0 where the size isn't allowed.
 #[tactic(auto, using(manual::proofs::Decks::length_parts))]
 pub fn length(m: Machine, s: &[u8]) -> usize
     ensures { result ≡ cond (size_allowed (length s.now)) (length (deck_of m s.now)) 0 }

@@ -1,33 +1,23 @@
--- What the code finds at a record is the rule's answer there (`found`), and so what is left of the deck gives the whole (`reading_starts` and on).
-use Rattle.std.specs.Prelude.{Ok}
-use Rattle.std.proofs.Common.{◌≡◌, ℕ, ◌-◌, ◌≤◌, List, length, take, drop, sym, ◌∙◌, arith}
-use Rattle.manual.proofs.DeckRecords.{later_record}
-use Rattle.deck.proofs.Reading.{reading_starts, reading_refused, reading_in, reading_end, reading_fits, tail}
+-- What is left of the deck gives the whole: at a record that is refused, at the end, and behind a page.
+use Rattle.std.proofs.Common.{rules}
+use Rattle.std.proofs.lemmas.List.{take_rest}
+use Rattle.deck.proofs.Reading.{reading_starts, reading_refused, reading_end, page_refused, reading_page, page_shorter}
 use Rattle.deck.proofs.reader.rest.Goals as goal
-use Rattle.manual.specs.Numbers.{ReadAnswer}
 
--- what `later` says at a place is what the rule says of the deck from there on
-found :
-    (d : List ℕ) (at pages next : ℕ) (r : ReadAnswer) → at ≤ length d → r ≡ later_record (take (length d - at) (drop at d)) pages next (Ok tt)
-    → later_record (drop at d) pages next (Ok tt) ≡ r
-found d at pages next r h e = sym (rw (tail d at h) at e)
+pub loop-page-init : goal.loop-page-init
+loop-page-init c = rw take_rest (reading_starts _ _ c.requires)
 
-pub loop-fault-init : goal.loop-fault-init
-loop-fault-init c = reading_starts _ _ c.requires
+pub returns-in_err-page : goal.returns-in_err-page
+returns-in_err-page c = search (rules, reading_refused c.loop-page.invariant c.in_err-page.ensures.walked)
 
-pub returns-in-Err : goal.returns-in-Err
-returns-in-Err c = let l = c.loop-fault.invariant in sym (reading_refused l _ (found _ _ _ _ _ l.inside c.later.ensures ∙ c.in-Err.is))
+pub returns-in_err-check : goal.returns-in_err-check
+returns-in_err-check c = page_refused c.loop-page.invariant (rw c.in-Some.is at c.in_ok-page.ensures.walked) c.in_err-check.ensures.err _ (search rules)
 
-pub bounds-deck-at : goal.bounds-deck-at
-bounds-deck-at c = let l = c.loop-fault.invariant in reading_in l (found _ _ _ _ _ l.inside c.later.ensures ∙ c.in-Ok.is)
+pub loop-page-smaller : goal.loop-page-smaller
+loop-page-smaller c = page_shorter (rw c.in-Some.is at c.in_ok-page.ensures.walked)
 
-pub returns-then-deck-at-ne2 : goal.returns-then-deck-at-ne2
-returns-then-deck-at-ne2 c =
-    let l = c.loop-fault.invariant in
-    sym (reading_end l (found _ _ _ _ _ l.inside c.later.ensures ∙ c.in-Ok.is) c.if-deck-at-ne2.true)
+pub loop-page-preserved : goal.loop-page-preserved
+loop-page-preserved c = reading_page c.loop-page.invariant (rw c.in-Some.is at c.in_ok-page.ensures.walked) c.in_ok-check.ensures.ok
 
-pub bounds-deck-at-in-Ok : goal.bounds-deck-at-in-Ok
-bounds-deck-at-in-Ok c =
-    let l = c.loop-fault.invariant in
-    let f = reading_fits l (found _ _ _ _ _ l.inside c.later.ensures ∙ c.in-Ok.is) c.if-deck-at-ne2.false in
-    omega arith
+pub returns : goal.returns
+returns c = reading_end c.loop-page.invariant (rw c.in_default.is at c.in_ok-page.ensures.walked)

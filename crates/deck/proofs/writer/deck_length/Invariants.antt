@@ -1,16 +1,13 @@
--- The total and the length of what is left are the length of the deck.
-use Rattle.std.proofs.Common.{◌-◌, ◌≡◌, ◌+◌, ◌*◌, ◌≤◌, length}
+-- The total and the length of the records of what is left are the length of the deck.
+use Rattle.std.proofs.Common.{◌≡◌, ◌+◌, ◌/◌, length}
+use Rattle.std.specs.Slice.Iter.{chunks_exact_rest, chunks_exact_size}
 use Rattle.manual.specs.Deck.{page_records}
-use Rattle.manual.proofs.Pages.{pages_from}
 use Rattle.deck.proofs.writer.deck_length.Given as goal
 
-abbrev pub invariant-loop-k : goal.invariant-loop-k
-invariant-loop-k l =
+abbrev pub invariant-loop-page : goal.invariant-loop-page
+invariant-loop-page l =
+    let rest = chunks_exact_rest l.page-iterator in
     record {
-      inside : l.k ≤ l.count;
-      small : l.total ≤ 20 + 258 * l.k;
-      is : l.total + length (pages_from l.s l.count l.k) ≡ 20 + length (page_records l.count 0 l.s);
+      size : chunks_exact_size l.page-iterator ≡ 256;
+      is : l.total + length (page_records (length rest / 256) 0 rest) ≡ 20 + length (page_records (length l.s / 256) 0 l.s);
     }
-
-abbrev pub decreases-loop-k : goal.decreases-loop-k
-decreases-loop-k l = l.count - l.k

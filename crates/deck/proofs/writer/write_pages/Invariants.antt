@@ -1,16 +1,19 @@
--- What is left, put at `at` over the output as it is now, gives the whole.
-use Rattle.std.proofs.Common.{◌-◌, ◌≡◌, ◌+◌, ◌≤◌, length}
+-- The records of what is left give the whole (`Writing`).
+use Rattle.std.proofs.Common.{◌≡◌, ◌+◌, ◌*◌, ◌/◌, length}
+use Rattle.std.specs.Slice.Iter.{chunks_exact_rest, chunks_exact_size}
+use Rattle.std.specs.Iterator.Adapters.{enumerate_count, enumerate_source}
 use Rattle.manual.specs.Deck.{over, page_records}
-use Rattle.manual.proofs.Pages.{pages_from}
+use Rattle.deck.proofs.Writing.{Writing}
 use Rattle.deck.proofs.writer.write_pages.Given as goal
 
-abbrev pub invariant-loop-page : goal.invariant-loop-page
-invariant-loop-page l =
+abbrev pub invariant-loop-number : goal.invariant-loop-number
+invariant-loop-number l =
+    let number = enumerate_count l.number-iterator in
+    let rest = chunks_exact_rest (enumerate_source l.number-iterator) in
+    let records = page_records (length l.s / 256) 0 l.s in
     record {
-      inside : l.page ≤ l.count;
-      place : l.at + length (pages_from l.s l.count l.page) ≡ 19 + length (page_records l.count 0 l.s);
-      is : over l.out l.at (pages_from l.s l.count l.page) ≡ over l.fn.out 19 (page_records l.count 0 l.s);
+      can : goal.iterator-loop-number.can_next l.number-iterator;
+      size : chunks_exact_size (enumerate_source l.number-iterator) ≡ 256;
+      small : number * 256 + length rest ≡ length l.s;
+      writing : Writing rest l.out (over l.fn.out 19 records) number l.at (19 + length records);
     }
-
-abbrev pub decreases-loop-page : goal.decreases-loop-page
-decreases-loop-page l = l.count - l.page
