@@ -1,11 +1,55 @@
-// Records: the machine's, and what makes a page one.
-ghost use Rattle.std.specs.Prelude.{◌≡◌, ◌≤◌, length};
-ghost use Rattle.manual.specs.Deck.{all_zero, machine_in, machine_record, word};
+// Records: their kinds, the machine's record, and whether a page has one.
+ghost use Rattle.std.specs.Prelude.{◌≡◌, ◌≤◌, length, false, MatchResult};
+ghost use Rattle.manual.specs.declared.DeckFault.TheVariants.{KindUnknown};
+ghost use Rattle.deck.specs.Records.{kind_byte};
+ghost use Rattle.manual.specs.Deck.{all_zero, kind_known, record_length, machine_in, machine_record, word};
 
-use manual::Machine;
+use manual::{DeckFault, Machine};
 
 /// The bytes of a page.
 pub(crate) const PAGE: usize = 256;
+
+/// The bytes of a page's record.
+pub(crate) const PAGE_RECORD: usize = 2 + PAGE;
+
+/// The bytes of the machine's record.
+pub(crate) const HEAD: usize = 19;
+
+/// What a record is, by the byte that it begins with.
+#[derive(Clone, Copy, PartialEq, Eq)]
+pub(crate) enum Kind {
+    Machine = 1,
+    Page = 2,
+    End = 3,
+}
+
+impl Kind {
+    /// The bytes of a record of this kind.
+    pub(crate) fn length(self) -> usize
+        ensures { result ≡ record_length (kind_byte self) }
+    {
+        match self {
+            Kind::Machine => HEAD,
+            Kind::Page => PAGE_RECORD,
+            Kind::End => 1,
+        }
+    }
+}
+
+impl TryFrom<u8> for Kind {
+    type Error = DeckFault;
+
+    ghost try_from_gives = { λ byte r. MatchResult r (λ k. byte ≡ kind_byte k) (λ x. (x ≡ KindUnknown) × (kind_known byte ≡ false)) };
+
+    fn try_from(byte: u8) -> Result<Kind, DeckFault> {
+        match byte {
+            1 => Ok(Kind::Machine),
+            2 => Ok(Kind::Page),
+            3 => Ok(Kind::End),
+            _ => Err(DeckFault::KindUnknown),
+        }
+    }
+}
 
 /// Whether every byte is zero.
 #[tactic(auto, using(crate::proofs::Zeros::zero_turn, crate::proofs::Zeros::zero_end))]
@@ -49,7 +93,7 @@ fn word(v: u16) -> [u8; 2]
 
 // The record 01 of a machine with this many pages.
 #[tactic(auto, unfolding(manual::specs::Deck::machine_record))]
-pub(crate) fn machine_record(pages: usize, m: Machine) -> [u8; 19]
+pub(crate) fn machine_record(pages: usize, m: Machine) -> [u8; HEAD]
     requires pages_bound { pages ≤ 256 }
     requires le_pages { 1 ≤ pages }
     ensures { result ≡ machine_record pages m }
@@ -63,7 +107,7 @@ pub(crate) fn machine_record(pages: usize, m: Machine) -> [u8; 19]
     let wr6 = word(m.wr[2]);
     let wr7 = word(m.wr[3]);
     [
-        1,
+        Kind::Machine as u8,
         (pages - 1) as u8,
         iar[0],
         iar[1],

@@ -1,11 +1,11 @@
 // The reader: a pass that checks the deck, and a pass that lays its pages.
-ghost use Rattle.std.specs.Prelude.{◌≡◌, ◌+◌, ◌*◌, ◌<◌, cond, not, ◌≤◌, eqb, length, get_or, drop, take, OnOk, IfErr, MatchResult, MatchOption, IsTrue, List, Ok, Err, true, false, ℕ};
+ghost use Rattle.std.specs.Prelude.{◌≡◌, ◌+◌, ◌*◌, ◌<◌, cond, not, ◌≤◌, eqb, length, get_or, drop, take, OnOk, IfOk, IfErr, MatchResult, MatchOption, IsTrue, List, Ok, Err, true, false, ℕ};
 ghost use Rattle.manual.specs.Numbers.{ReadAnswer};
 ghost use Rattle.manual.specs.Deck.{record_answer, first_answer, page_answer, later_answer, deck_answer, over, paged};
 ghost use Rattle.manual.proofs.DeckRecords.{Asked, later_record, EndAt};
-ghost use Rattle.deck.specs.Records.{IsPage};
+ghost use Rattle.deck.specs.Records.{in_order, kind_byte, IsPage};
 
-use crate::format;
+use crate::format::{self, HEAD, Kind, PAGE, PAGE_RECORD};
 use manual::DeckFault;
 
 /// A page as its record has it.
@@ -21,30 +21,24 @@ struct Records<'a> {
     rest: &'a [u8],
 }
 
-// What each record is asked first.
-fn asked(d: &[u8], first: bool) -> Result<(), DeckFault>
-    ensures ok { OnOk result ((more : ReadAnswer) → record_answer (cond first (eqb (get_or d.now 0 0) 1) (not (eqb (get_or d.now 0 0) 1))) d.now more ≡ more) }
-    ensures asked { OnOk result (Asked (cond first (eqb (get_or d.now 0 0) 1) (not (eqb (get_or d.now 0 0) 1))) d.now) }
-    ensures err { IfErr result (λ x. (more : ReadAnswer) → record_answer (cond first (eqb (get_or d.now 0 0) 1) (not (eqb (get_or d.now 0 0) 1))) d.now more ≡ Err x) }
+// What each record is asked first: its kind, its place and its length.
+fn asked(d: &[u8], first: bool) -> Result<Kind, DeckFault>
+    ensures ok { OnOk result (Asked (in_order first d.now) d.now) }
+    ensures kind { IfOk result (λ k. get_or d.now 0 0 ≡ kind_byte k) }
+    ensures err { IfErr result (λ x. (more : ReadAnswer) → record_answer (in_order first d.now) d.now more ≡ Err x) }
 {
-    let kind = *d.first().ok_or(DeckFault::EndsEarly)?;
-    let length = match kind {
-        1 => 19,
-        2 => 2 + format::PAGE,
-        3 => 1,
-        _ => return Err(DeckFault::KindUnknown),
-    };
-    if (kind == 1) != first {
+    let kind = Kind::try_from(*d.first().ok_or(DeckFault::EndsEarly)?)?;
+    if (kind == Kind::Machine) != first {
         return Err(DeckFault::OutOfOrder);
     }
-    if d.len() < length {
+    if d.len() < kind.length() {
         return Err(DeckFault::EndsEarly);
     }
-    Ok(())
+    Ok(kind)
 }
 
 // The first record.
-#[tactic(auto, unfolding(manual::specs::Deck::first_answer, manual::specs::TheMachine::status_allowed))]
+#[tactic(auto, unfolding(manual::specs::Deck::first_answer, manual::specs::TheMachine::status_allowed), using(manual::proofs::DeckRecords::asked_good))]
 fn first(d: &[u8], size: usize) -> Result<(), DeckFault>
     ensures ok { OnOk result ((more : ReadAnswer) → first_answer d.now size more ≡ more) }
     ensures whole { OnOk result (19 ≤ length d.now) }
@@ -54,31 +48,41 @@ fn first(d: &[u8], size: usize) -> Result<(), DeckFault>
     if d[18] >= 64 {
         return Err(DeckFault::StatusNotAllowed);
     }
-    if (usize::from(d[1]) + 1) * format::PAGE != size {
+    if (usize::from(d[1]) + 1) * PAGE != size {
         return Err(DeckFault::SizeNotTheDecks);
     }
     Ok(())
 }
 
 impl<'a> Records<'a> {
+    // The records behind the machine's.
+    #[tactic(auto, using(std::proofs::lemmas::List::take_rest))]
+    fn behind_head(deck: &'a [u8]) -> Records<'a>
+        requires { 19 ≤ length deck.now }
+        ensures { result.rest.now ≡ drop 19 deck.now }
+    {
+        Records {
+            rest: &deck[HEAD..],
+        }
+    }
+
     // The page of the next record, or none at the end of the deck.
     #[tactic(auto, unfolding(manual::proofs::DeckRecords::later_record))]
     fn next_page(&mut self) -> Result<Option<Page<'a>>, DeckFault>
         ensures walked { MatchResult result (λ r. MatchOption r (EndAt self.old.rest.now) (λ p. IsPage self.old.rest.now p self.new.rest.now)) (λ x. (pages next : ℕ) (more : ReadAnswer) → later_record self.old.rest.now pages next more ≡ Err x) }
     {
         let d = self.rest;
-        asked(d, false)?;
-        if d[0] == 2 {
-            self.rest = &d[2 + format::PAGE..];
-            return Ok(Some(Page {
-                number: usize::from(d[1]),
-                bytes: &d[2..2 + format::PAGE],
-            }));
+        match asked(d, false)? {
+            Kind::Page => {
+                self.rest = &d[PAGE_RECORD..];
+                Ok(Some(Page {
+                    number: usize::from(d[1]),
+                    bytes: &d[2..PAGE_RECORD],
+                }))
+            }
+            _ if d.len() != 1 => Err(DeckFault::BytesAfterEnd),
+            _ => Ok(None),
         }
-        if d.len() != 1 {
-            return Err(DeckFault::BytesAfterEnd);
-        }
-        Ok(None)
     }
 }
 
@@ -108,17 +112,18 @@ impl Page<'_> {
         requires { (length self.now.bytes.now ≡ 256) × (self.now.number * 256 + 256 ≤ length s.old) }
         ensures { s.new ≡ over s.old (self.now.number * 256) self.now.bytes.now }
     {
-        let at = self.number * format::PAGE;
-        s[at..at + format::PAGE].copy_from_slice(self.bytes);
+        let at = self.number * PAGE;
+        s[at..at + PAGE].copy_from_slice(self.bytes);
     }
 }
 
 // The records after the first.
+#[tactic(auto, using(crate::proofs::Reading::reading_starts, crate::proofs::Reading::reading_page))]
 fn rest(deck: &[u8], pages: usize) -> Result<(), DeckFault>
     requires { 19 ≤ length deck.now }
     ensures { result ≡ later_answer (length deck.now) (drop 19 deck.now) pages 0 }
 {
-    let mut records = Records { rest: &deck[19..] };
+    let mut records = Records::behind_head(deck);
     let mut next = 0;
     while let Some(page) = records.next_page()? {
         page.check(pages, next)?;
@@ -133,16 +138,16 @@ pub(crate) fn verdict(deck: &[u8], size: usize) -> Result<(), DeckFault>
     ensures { result ≡ deck_answer deck.now size }
 {
     first(deck, size)?;
-    rest(deck, size / format::PAGE)
+    rest(deck, size / PAGE)
 }
 
 /// Lays the pages of an accepted deck over the storage.
-#[tactic(auto, using(crate::proofs::Reading::deck_head))]
+#[tactic(auto, using(crate::proofs::Reading::deck_head, crate::proofs::Reading::laying_starts, crate::proofs::Reading::laying_page))]
 pub(crate) fn lay_pages(deck: &[u8], s: &mut [u8])
     requires { deck_answer deck.now (length s.old) ≡ Ok tt }
     ensures { s.new ≡ paged (length deck.now) (drop 19 deck.now) s.old }
 {
-    let mut records = Records { rest: &deck[19..] };
+    let mut records = Records::behind_head(deck);
     while let Ok(Some(page)) = records.next_page() {
         page.lay(s);
     }

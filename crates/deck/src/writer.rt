@@ -3,7 +3,7 @@ ghost use Rattle.std.specs.Prelude.{true, ◌≡◌, ◌+◌, ◌/◌, ◌≤◌
 ghost use Rattle.manual.specs.TheMachine.{size_allowed};
 ghost use Rattle.manual.specs.Deck.{deck_of, over, page_record, page_records};
 
-use crate::format;
+use crate::format::{self, HEAD, Kind, PAGE, PAGE_RECORD};
 use manual::Machine;
 
 // The length of a page's record: none where the page is all zero.
@@ -14,7 +14,7 @@ fn page_length(page: &[u8]) -> usize
     if format::all_zero(page) {
         0
     } else {
-        2 + format::PAGE
+        PAGE_RECORD
     }
 }
 
@@ -22,8 +22,9 @@ fn page_length(page: &[u8]) -> usize
 pub(crate) fn deck_length(s: &[u8]) -> usize
     ensures { result ≡ 20 + length (page_records (length s.now / 256) 0 s.now) }
 {
-    let mut total = 20;
-    for page in s.chunks_exact(format::PAGE) {
+    // the machine's record, and the end's
+    let mut total = HEAD + 1;
+    for page in s.chunks_exact(PAGE) {
         total += page_length(page);
     }
     total
@@ -31,18 +32,18 @@ pub(crate) fn deck_length(s: &[u8]) -> usize
 
 // Writes a page's record, if it has one, at the place `at`, and returns the place after it.
 #[tactic(auto, using(manual::proofs::Pages::over_none, manual::proofs::Pages::over_two, crate::proofs::Writing::put_over, crate::proofs::Writing::record_room))]
-fn write_page(page: &[u8], number: u8, out: &mut [u8], at: usize) -> usize
-    requires { (length page.now ≡ 256) × (at + length (page_record number page.now) ≤ length out.old) }
-    ensures value { result ≡ at + length (page_record number page.now) }
-    ensures out_after { out.new ≡ over out.old at (page_record number page.now) }
+fn write_page(number: u8, bytes: &[u8], out: &mut [u8], at: usize) -> usize
+    requires { (length bytes.now ≡ 256) × (at + length (page_record number bytes.now) ≤ length out.old) }
+    ensures value { result ≡ at + length (page_record number bytes.now) }
+    ensures out_after { out.new ≡ over out.old at (page_record number bytes.now) }
 {
-    if format::all_zero(page) {
+    if format::all_zero(bytes) {
         return at;
     }
-    let after = at + 2 + format::PAGE;
-    out[at] = 2;
+    let after = at + PAGE_RECORD;
+    out[at] = Kind::Page as u8;
     out[at + 1] = number;
-    out[at + 2..after].copy_from_slice(page);
+    out[at + 2..after].copy_from_slice(bytes);
     after
 }
 
@@ -53,9 +54,9 @@ fn write_pages(s: &[u8], out: &mut [u8]) -> usize
     ensures value { result ≡ 19 + length (page_records (length s.now / 256) 0 s.now) }
     ensures out_after { out.new ≡ over out.old 19 (page_records (length s.now / 256) 0 s.now) }
 {
-    let mut at = 19;
-    for (number, page) in s.chunks_exact(format::PAGE).enumerate() {
-        at = write_page(page, number as u8, out, at);
+    let mut at = HEAD;
+    for (number, page) in s.chunks_exact(PAGE).enumerate() {
+        at = write_page(number as u8, page, out, at);
     }
     at
 }
@@ -67,8 +68,8 @@ pub(crate) fn write_deck(m: Machine, s: &[u8], out: &mut [u8])
     requires s_in_bounds { length (deck_of m s.now) ≤ length out.old }
     ensures { out.new ≡ over out.old 0 (deck_of m s.now) }
 {
-    let head = format::machine_record(s.len() / format::PAGE, m);
-    out[..19].copy_from_slice(&head);
+    let head = format::machine_record(s.len() / PAGE, m);
+    out[..HEAD].copy_from_slice(&head);
     let end = write_pages(s, out);
-    out[end] = 3;
+    out[end] = Kind::End as u8;
 }
