@@ -1,23 +1,14 @@
-// Numbers that come back: what each answer is told as, by document 01's table. The runner, the examples and the host all tell by these.
+//! Numbers that come back: what each answer is told as. The runner, the examples and the host all tell by these.
 #![tactic(auto)]
 
 ghost use Rattle.std.specs.Prelude.{◌≡◌, ◌<◌};
-ghost use Rattle.manual.specs.Numbers.{answer_told, refusal_told, stop_told, fault_number, read_number, write_fault_number, write_told};
+ghost use Rattle.manual.specs.Numbers.{answer_told, stop_told, fault_number, read_number, write_told};
 
-use manual::{Answer, DeckFault, Refusal, Stop, WriteFault};
+use manual::{Answer, DeckFault, Stop, WriteFault};
 
 // ---- step and run
 
-fn refusal_number(x: Refusal) -> u8
-    ensures { (result ≡ (refusal_told x 0).number) × (result < 10) }
-{
-    match x {
-        Refusal::SizeRefused => 1,
-        Refusal::BudgetRefused => 2,
-        Refusal::StatusRefused => 3,
-    }
-}
-
+// by a match: a Stop carries bytes, so it can't be cast to its number as a refusal is
 fn stop_number(x: Stop) -> u8
     ensures { (result ≡ (stop_told x 0).number) × (result < 10) }
 {
@@ -31,112 +22,67 @@ fn stop_number(x: Stop) -> u8
     }
 }
 
+/// The number of an answer of step or run: 0 executed, 1 to 3 refused at entry, 4 to 8 stopped, 9 a supervisor call.
 pub fn number_of(a: Answer) -> u8
     ensures { (result ≡ (answer_told a 0).number) × (result < 10) }
 {
     match a {
         Answer::Executed => 0,
-        Answer::Refused(x) => refusal_number(x),
-        Answer::Stopped(x) => stop_number(x),
+        Answer::Refused(refusal) => refusal as u8,
+        Answer::Stopped(stop) => stop_number(stop),
     }
 }
 
-fn stop_q(x: Stop) -> u8
-    ensures { result ≡ (stop_told x 0).q }
+// the Q and R bytes of a supervisor call, zeros for every other answer
+fn q_and_r(a: Answer) -> (u8, u8)
+    ensures { result ≡ ((answer_told a 0).q, (answer_told a 0).r) }
 {
-    match x {
-        Stop::CutShort => 0,
-        Stop::OpcodeUnknown => 0,
-        Stop::QRefused => 0,
-        Stop::OperandOutside => 0,
-        Stop::DigitRefused => 0,
-        Stop::Supervisor(q, _) => q,
+    match a {
+        Answer::Stopped(Stop::Supervisor(q, r)) => (q, r),
+        _ => (0, 0),
     }
 }
 
+/// The Q byte of a supervisor call, 0 for every other answer.
 pub fn q_of(a: Answer) -> u8
     ensures { result ≡ (answer_told a 0).q }
 {
-    match a {
-        Answer::Executed => 0,
-        Answer::Refused(_) => 0,
-        Answer::Stopped(x) => stop_q(x),
-    }
+    q_and_r(a).0
 }
 
-fn stop_r(x: Stop) -> u8
-    ensures { result ≡ (stop_told x 0).r }
-{
-    match x {
-        Stop::CutShort => 0,
-        Stop::OpcodeUnknown => 0,
-        Stop::QRefused => 0,
-        Stop::OperandOutside => 0,
-        Stop::DigitRefused => 0,
-        Stop::Supervisor(_, b) => b,
-    }
-}
-
+/// The R byte of a supervisor call, 0 for every other answer.
 pub fn r_of(a: Answer) -> u8
     ensures { result ≡ (answer_told a 0).r }
 {
-    match a {
-        Answer::Executed => 0,
-        Answer::Refused(_) => 0,
-        Answer::Stopped(x) => stop_r(x),
-    }
+    q_and_r(a).1
 }
 
 // ---- the deck
 
+/// The number of a reason why a deck is not read: 1, 3, or 11 to 16.
 pub fn fault_number(x: DeckFault) -> u8
     ensures { result ≡ fault_number x }
 {
-    match x {
-        DeckFault::SizeNotTheDecks => 1,
-        DeckFault::StatusNotAllowed => 3,
-        DeckFault::EndsEarly => 11,
-        DeckFault::KindUnknown => 12,
-        DeckFault::OutOfOrder => 13,
-        DeckFault::PageBeyond => 14,
-        DeckFault::PageOfZeros => 15,
-        DeckFault::BytesAfterEnd => 16,
-    }
+    x as u8
 }
 
+/// The number of the reader's answer: 0 where the deck is read, else that of the reason.
 pub fn read_number(a: Result<(), DeckFault>) -> u8
     ensures { result ≡ read_number a }
 {
-    match a {
-        Ok(()) => 0,
-        Err(x) => fault_number(x),
-    }
+    a.err().map_or(0, fault_number)
 }
 
-fn write_fault_number(x: WriteFault) -> u8
-    ensures { result ≡ write_fault_number x }
-{
-    match x {
-        WriteFault::SizeNotAllowed => 1,
-        WriteFault::StatusNotWritable => 3,
-        WriteFault::OutputShort => 17,
-    }
-}
-
+/// The number of the writer's answer: 0 where the deck is written, else 1, 3 or 17.
 pub fn write_number(a: Result<usize, WriteFault>) -> u8
     ensures { result ≡ (write_told a).number }
 {
-    match a {
-        Ok(_) => 0,
-        Err(x) => write_fault_number(x),
-    }
+    a.err().map_or(0, |fault| fault as u8)
 }
 
+/// The length of the deck that was written, 0 on refusal.
 pub fn write_length(a: Result<usize, WriteFault>) -> usize
     ensures { result ≡ (write_told a).length }
 {
-    match a {
-        Ok(n) => n,
-        Err(_) => 0,
-    }
+    a.unwrap_or(0)
 }
