@@ -12,11 +12,6 @@ use Rattle.manual.specs.Deck.{ReadOutcome, read_of, WriteOutcome, write_of, deck
 use Rattle.host.specs.declared.StepNumbers.{StepNumbers}
 use Rattle.host.specs.declared.RunNumbers.{RunNumbers}
 use Rattle.host.specs.declared.WriteNumbers.{WriteNumbers}
-use Rattle.host.specs.declared.ToldStep.{ToldStep}
-use Rattle.host.specs.declared.ToldRun.{ToldRun}
-use Rattle.host.specs.declared.ToldRead.{ToldRead}
-use Rattle.host.specs.declared.ToldWrite.{ToldWrite}
-use Rattle.host.specs.declared.ToldLength.{ToldLength}
 
 -- ---- answers in numbers
 
@@ -28,6 +23,28 @@ run_numbers e = record { number = (told e).number; q = (told e).q; r = (told e).
 
 abbrev pub write_numbers : WriteAnswer → WriteNumbers
 write_numbers a = record { number = (write_told a).number; length = (write_told a).length }
+
+-- ---- what a call gives: the record afterwards, and what is told
+
+pub record ToldStep : Type 0 where
+  pub machine : Machine
+  pub numbers : StepNumbers
+
+pub record ToldRun : Type 0 where
+  pub machine : Machine
+  pub numbers : RunNumbers
+
+pub record ToldRead : Type 0 where
+  pub machine : Machine
+  pub number : ℕ
+
+pub record ToldWrite : Type 0 where
+  pub machine : Machine
+  pub numbers : WriteNumbers
+
+pub record ToldLength : Type 0 where
+  pub machine : Machine
+  pub length : ℕ
 
 -- ---- what a call leaves: its result, which holds the record and what is told, and the bytes that it was lent to change
 

@@ -1,5 +1,5 @@
-// The host keeps one machine record and lends it, PUBLISHED, and exported to C by host_c: each entry alters that record itself and tells the paper's numbers.
-// No entry has a `requires`, and each has one statement: the relation of the function under it, told in numbers (specs/Told).
+//! The host keeps one machine record and lends it, PUBLISHED, and exported to C by host_c: each entry alters that record itself and tells numbers.
+//! No entry has a `requires`, and each has one statement: the relation of the function under it, told in numbers (specs/Told).
 #![tactic(auto)]
 
 ghost use Rattle.std.specs.Prelude.{◌≡◌};
@@ -9,16 +9,18 @@ use manual::{Answer, Ended, Machine, WriteFault};
 
 // ---- what comes back: numbers only, since C has no enum of ours
 
+/// What a step tells: the number of its answer, 0 to 9, and with 9 the Q and R bytes of the supervisor call.
 #[repr(C)]
-#[derive(Clone, Copy)]
+#[derive(Clone, Copy, Debug, PartialEq, Eq)]
 pub struct StepNumbers {
     pub number: u8,
     pub q: u8,
     pub r: u8,
 }
 
+/// What a run tells: what its last answer tells, and the count of executed steps.
 #[repr(C)]
-#[derive(Clone, Copy)]
+#[derive(Clone, Copy, Debug, PartialEq, Eq)]
 pub struct RunNumbers {
     pub number: u8,
     pub q: u8,
@@ -26,171 +28,105 @@ pub struct RunNumbers {
     pub steps: u32,
 }
 
+/// What the writer tells: the number of its answer, and the length in bytes of the deck that it wrote, 0 on refusal.
 #[repr(C)]
-#[derive(Clone, Copy)]
+#[derive(Clone, Copy, Debug, PartialEq, Eq)]
 pub struct WriteNumbers {
     pub number: u8,
     pub length: usize,
 }
 
-// ---- by value: the machine afterwards, and what is told
+impl From<Answer> for StepNumbers {
+    ghost from_gives = { λ a n. n ≡ step_numbers a };
 
-#[derive(Clone, Copy)]
-pub struct ToldStep {
-    pub machine: Machine,
-    pub numbers: StepNumbers,
-}
-
-#[derive(Clone, Copy)]
-pub struct ToldRun {
-    pub machine: Machine,
-    pub numbers: RunNumbers,
-}
-
-#[derive(Clone, Copy)]
-pub struct ToldRead {
-    pub machine: Machine,
-    pub number: u8,
-}
-
-#[derive(Clone, Copy)]
-pub struct ToldWrite {
-    pub machine: Machine,
-    pub numbers: WriteNumbers,
-}
-
-#[derive(Clone, Copy)]
-pub struct ToldLength {
-    pub machine: Machine,
-    pub length: usize,
-}
-
-fn step_numbers(a: Answer) -> StepNumbers
-    ensures { result ≡ step_numbers a }
-{
-    let number = told::number_of(a);
-    let q = told::q_of(a);
-    let r = told::r_of(a);
-    StepNumbers { number, q, r }
-}
-
-fn run_numbers(e: Ended) -> RunNumbers
-    ensures { result ≡ run_numbers e }
-{
-    let a = e.answer;
-    let n = step_numbers(a);
-    RunNumbers {
-        number: n.number,
-        q: n.q,
-        r: n.r,
-        steps: e.steps,
+    fn from(a: Answer) -> StepNumbers {
+        StepNumbers {
+            number: told::number_of(a),
+            q: told::q_of(a),
+            r: told::r_of(a),
+        }
     }
 }
 
-fn write_numbers(a: Result<usize, WriteFault>) -> WriteNumbers
-    ensures { result ≡ write_numbers a }
-{
-    let number = told::write_number(a);
-    let length = told::write_length(a);
-    WriteNumbers { number, length }
-}
+impl From<Ended> for RunNumbers {
+    ghost from_gives = { λ e n. n ≡ run_numbers e };
 
-fn told_step(m: Machine, storage: &mut [u8]) -> ToldStep
-    ensures { ToldStepAs m storage.old result storage.new }
-{
-    let stepped = processor::step(m, storage);
-    let after = stepped.machine;
-    let a = stepped.answer;
-    ToldStep {
-        machine: after,
-        numbers: step_numbers(a),
+    fn from(e: Ended) -> RunNumbers {
+        let StepNumbers { number, q, r } = e.answer.into();
+        RunNumbers {
+            number,
+            q,
+            r,
+            steps: e.steps,
+        }
     }
 }
 
-fn told_run(m: Machine, storage: &mut [u8], budget: u32) -> ToldRun
-    ensures { ToldRunAs m storage.old budget result storage.new }
-{
-    let ran = processor::run(m, storage, budget);
-    let last = ran.machine;
-    let e = ran.ended;
-    ToldRun {
-        machine: last,
-        numbers: run_numbers(e),
-    }
-}
+impl From<Result<usize, WriteFault>> for WriteNumbers {
+    ghost from_gives = { λ a n. n ≡ write_numbers a };
 
-// The record's old values count for nothing: the deck's machine, or a zeroed one, takes their place.
-fn told_read(m: Machine, deck: &[u8], storage: &mut [u8]) -> ToldRead
-    ensures { ToldReadAs m deck.now storage.old result storage.new }
-{
-    let taken = deck::read(deck, storage);
-    let found = taken.machine;
-    let a = taken.answer;
-    let n = told::read_number(a);
-    ToldRead {
-        machine: found,
-        number: n,
-    }
-}
-
-fn told_write(m: Machine, storage: &[u8], out: &mut [u8]) -> ToldWrite
-    ensures { ToldWriteAs m storage.now out.old result out.new }
-{
-    let a = deck::write(m, storage, out);
-    ToldWrite {
-        machine: m,
-        numbers: write_numbers(a),
-    }
-}
-
-fn told_length(m: Machine, storage: &[u8]) -> ToldLength
-    ensures { ToldLengthAs m storage.now result }
-{
-    let n = deck::length(m, storage);
-    ToldLength {
-        machine: m,
-        length: n,
+    fn from(a: Result<usize, WriteFault>) -> WriteNumbers {
+        WriteNumbers {
+            number: told::write_number(a),
+            length: told::write_length(a),
+        }
     }
 }
 
 // ---- published: each takes the record, calls the function by value, and stores the machine that it gave
 
+/// One step over the lent record and storage: 0 executed, 1 and 3 to 9 as below, with the Q and R bytes where it is 9.
+///
+/// With any number but 0 record and storage stay as they were:
+/// 1 where storage isn't one to 256 whole pages of 256 bytes, 3 where the record's status is above 63,
+/// 4 to 8 where the instruction can't be executed, 9 where it is a supervisor call.
 pub fn aqtovmesh_step(m: &mut Machine, storage: &mut [u8]) -> StepNumbers
     ensures { ToldStepAs m.old storage.old (record { machine = m.new; numbers = result }) storage.new }
 {
-    let t = told_step(*m, storage);
-    *m = t.machine;
-    t.numbers
+    let stepped = processor::step(*m, storage);
+    *m = stepped.machine;
+    stepped.answer.into()
 }
 
+/// At most `budget` steps over the lent record and storage: 0 where the budget is spent, with the count of executed steps.
+///
+/// 1 where storage isn't one to 256 whole pages of 256 bytes, 2 where the budget is above 16,777,216 and 3 where the
+/// record's status is above 63 leave record and storage as they were; 4 to 9, the numbers of a step that isn't
+/// executed, leave them as the executed steps did.
 pub fn aqtovmesh_run(m: &mut Machine, storage: &mut [u8], budget: u32) -> RunNumbers
     ensures { ToldRunAs m.old storage.old budget (record { machine = m.new; numbers = result }) storage.new }
 {
-    let t = told_run(*m, storage, budget);
-    *m = t.machine;
-    t.numbers
+    let ran = processor::run(*m, storage, budget);
+    *m = ran.machine;
+    ran.ended.into()
 }
 
+/// Reads a deck into record and storage: 0, or 1, 3 or 11 to 16, why it isn't read.
+///
+/// What the record held counts for nothing: with 0 it is the deck's machine, and storage is the deck's, pages that the
+/// deck doesn't have zeroed; with any other number it is zeroed, and storage stays as it was.
 pub fn aqtovmesh_read(m: &mut Machine, deck: &[u8], storage: &mut [u8]) -> u8
     ensures { ToldReadAs m.old deck.now storage.old (record { machine = m.new; number = result }) storage.new }
 {
-    let t = told_read(*m, deck, storage);
-    *m = t.machine;
-    t.number
+    let taken = deck::read(deck, storage);
+    *m = taken.machine;
+    told::read_number(taken.answer)
 }
 
+/// Writes the deck of record and storage to the front of `out`: 0 with its length in bytes, bytes of `out` after that stay.
+///
+/// 1 where storage isn't one to 256 whole pages of 256 bytes, 3 where the record's status is above 63, 17 where `out` is
+/// shorter than the deck: `out` stays as it was. The record stays always.
 pub fn aqtovmesh_write(m: &mut Machine, storage: &[u8], out: &mut [u8]) -> WriteNumbers
     ensures { ToldWriteAs m.old storage.now out.old (record { machine = m.new; numbers = result }) out.new }
 {
-    let t = told_write(*m, storage, out);
-    *m = t.machine;
-    t.numbers
+    deck::write(*m, storage, out).into()
 }
 
+/// The length in bytes of the deck of record and storage, 0 where storage isn't one to 256 whole pages of 256 bytes.
+/// The record stays.
 pub fn aqtovmesh_deck_length(m: &mut Machine, storage: &[u8]) -> usize
     ensures { ToldLengthAs m.old storage.now (record { machine = m.new; length = result }) }
 {
-    let t = told_length(*m, storage);
-    *m = t.machine;
-    t.length
+    deck::length(*m, storage)
 }
