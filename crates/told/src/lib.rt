@@ -9,10 +9,10 @@ use manual::{Answer, DeckFault, Stop, WriteFault};
 // ---- step and run
 
 // by a match: a Stop carries bytes, so it can't be cast to its number as a refusal is
-fn stop_number(x: Stop) -> u8
-    ensures { (result ≡ (stop_told x 0).number) × (result < 10) }
+fn stop_number(stop: Stop) -> u8
+    ensures { (result ≡ (stop_told stop 0).number) × (result < 10) }
 {
-    match x {
+    match stop {
         Stop::CutShort => 4,
         Stop::OpcodeUnknown => 5,
         Stop::QRefused => 6,
