@@ -4,7 +4,8 @@ use mathlib.Core.Bool.{true}
 use mathlib.Core.List.{List}
 use Prim.Native.Nat.{ℕ, zero, suc, ◌+◌, ◌%◌, ◌≤◌, ◌<◌}
 use native.Mathlib.Omega.{arith}
-use lib.ListN.{length, get_or}
+use lib.ListN.{length, get_or, take}
+use Rattle.std.proofs.lemmas.List.{length-take, length-take-le}
 use lib.Dec.{eqb-suc-zero}
 use Rattle.std.specs.Prelude.{Result, Ok, Err}
 use Rattle.manual.specs.declared.Machine.{Machine}
@@ -42,6 +43,16 @@ source_clear size (suc n) a e = let h = reach_clear size (suc n) a (ap clear (sy
 
 pub source_in : (size n a : ℕ) → Ok tt ≡ (source_reach size n a) → (n ≤ a + 1) × (0 < n → a < size)
 source_in size n a e = source_clear size n a (way_clear (source_reach size n a) e)
+
+-- operand 2's copy has room in a buffer l
+pub lent_in : (l s : List ℕ) (n a : ℕ) → Ok tt ≡ (source_reach (length s) n a) → (length (take n l) ≤ a + 1) × (0 < length (take n l) → a < length s)
+lent_in l s n a e =
+    let h = source_in (length s) n a e in
+    let k : length (take n l) ≤ n = omega (arith, length-take n l) in
+    (omega arith, λ p. h.1 (omega arith))
+
+pub lent_full : (l d : List ℕ) (n : ℕ) → length d ≡ length (take n l) → n ≤ length l → length d ≡ n
+lent_full l d n e h = e ∙ length-take-le n l h
 
 both : (v w : Way) → Ok tt ≡ v → Ok tt ≡ w → Ok tt ≡ (and_then v w)
 unfolding and_then

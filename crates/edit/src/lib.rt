@@ -46,12 +46,10 @@ fn count_20(s: &[u8], a: usize, n: usize) -> usize
     ensures { (result ≡ count20 (bytes_of s.now n a)) × (result ≤ n) }
 {
     let mut count = 0;
-    let mut i = 0;
-    while i < n {
+    for i in 0..n {
         if s[a - i] == 0x20 {
             count += 1;
         }
-        i += 1;
     }
     count
 }
@@ -68,14 +66,12 @@ fn source_reach(size: usize, n: usize, a: usize) -> Result<(), Stop>
 
 // Operand 2 as it was, the rightmost byte first: an overlap must not change a digit before it is taken.
 #[tactic(auto, using(crate::proofs::Taking::copied_none))]
-fn take(s: &[u8], a: usize, n: usize, d: &mut [u8; 256])
-    requires { (n ≤ a + 1) × (n ≤ 256) × (0 < n → a < length s.now) }
-    ensures { take n d.new ≡ bytes_of s.now n a }
+fn take(s: &[u8], a: usize, d: &mut [u8])
+    requires { (length d.old ≤ a + 1) × (0 < length d.old → a < length s.now) }
+    ensures { d.new ≡ bytes_of s.now (length d.new) a }
 {
-    let mut i = 0;
-    while i < n {
+    for i in 0..d.len() {
         d[i] = s[a - i];
-        i += 1;
     }
 }
 
@@ -84,12 +80,10 @@ fn take(s: &[u8], a: usize, n: usize, d: &mut [u8; 256])
 fn digits_of(d: &[u8]) -> Result<(), Stop>
     ensures { result ≡ digits_of d.now }
 {
-    let mut i = 0;
-    while i < d.len() {
-        if 9 < d[i] % 16 {
+    for b in d {
+        if 9 < b % 16 {
             return Err(Stop::DigitRefused);
         }
-        i += 1;
     }
     Ok(())
 }
@@ -98,12 +92,10 @@ fn digits_of(d: &[u8]) -> Result<(), Stop>
 fn all_zero(d: &[u8]) -> bool
     ensures { result ≡ eqb (size d.now) 0 }
 {
-    let mut i = 0;
-    while i < d.len() {
-        if d[i] % 16 != 0 {
+    for b in d {
+        if b % 16 != 0 {
             return false;
         }
-        i += 1;
     }
     true
 }
@@ -129,13 +121,11 @@ fn put_edited(s: &mut [u8], a: usize, n: usize, d: &[u8])
     ensures { Gives (put_edited (bytes_of s.old n a) d.now a) s.old tt s.new }
 {
     let mut k = 0;
-    let mut i = 0;
-    while i < n {
+    for i in 0..n {
         if s[a - i] == 0x20 {
             s[a - i] = 240 + d[k] % 16;
             k += 1;
         }
-        i += 1;
     }
 }
 
@@ -150,8 +140,8 @@ pub fn ed(m: &mut Machine, s: &mut [u8], f: Fields) -> Result<(), Stop>
     let count = count_20(s, a, n);
     source_reach(s.len(), count, b)?;
     let mut copy = [0u8; 256];
-    take(s, b, count, &mut copy);
-    let d = &copy[..count];
+    let d = &mut copy[..count];
+    take(s, b, d);
     digits_of(d)?;
     put_edited(s, a, n, d);
     m.status = set_order(value_order(d), m.status);
@@ -178,6 +168,7 @@ fn scan_right(s: &mut [u8], a: usize, n: usize, v: u8) -> usize
 {
     let mut at = a;
     let stop = a + n;
+    // Not a `for`: the project's rules ask for ITC's scan as a loop that yields its address by `break`.
     let found = loop {
         if at == stop {
             break stop;

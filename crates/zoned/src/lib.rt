@@ -34,12 +34,10 @@ fn some_bad(s: &[u8], left: usize, k: usize) -> bool
     ensures { (result ≡ false) ↔ Digits s.now left k }
 {
     let mut bad = false;
-    let mut i = 0;
-    while i < k {
+    for i in 0..k {
         if 9 < s[left + i] % 16 {
             bad = true;
         }
-        i += 1;
     }
     bad
 }
@@ -106,10 +104,8 @@ fn copied(s: &[u8], n: usize, a: usize) -> [u8; 31]
     ensures { result ≡ written (replicate 31 0) n 30 (λ j. get_or s.now (a - j) 0) }
 {
     let mut d = [0u8; 31];
-    let mut i = 0;
-    while i < n {
+    for i in 0..n {
         d[30 - i] = s[a - i];
-        i += 1;
     }
     d
 }
@@ -120,10 +116,8 @@ fn put_copy(s: &mut [u8], n: usize, a: usize, d: &[u8; 31])
     requires { (a < length s.old) × (n ≤ a + 1) × (n ≤ 31) }
     ensures { s.new ≡ written s.old n a (λ j. get_or d.now (30 - j) 0) }
 {
-    let mut i = 0;
-    while i < n {
+    for i in 0..n {
         s[a - i] = d[30 - i];
-        i += 1;
     }
 }
 
@@ -132,10 +126,8 @@ fn put_zones(s: &mut [u8], left: usize, k: usize)
     requires { left + k ≤ length s.old }
     ensures { Zones s.old left k s.new }
 {
-    let mut i = 0;
-    while i < k {
+    for i in 0..k {
         s[left + i] = 240 + s[left + i] % 16;
-        i += 1;
     }
 }
 
@@ -167,12 +159,10 @@ fn is_zero(s: &[u8], n: usize, a: usize) -> bool
     requires a_value { all_digits (bytes_of s.now n a) ≡ true }
     ensures { result ≡ eqb (size (bytes_of s.now n a)) 0 }
 {
-    let mut i = 0;
-    while i < n {
+    for i in 0..n {
         if s[a - i] % 16 != 0 {
             return false;
         }
-        i += 1;
     }
     true
 }
@@ -224,12 +214,10 @@ fn columns(s: &mut [u8], n: usize, a: usize, d: &[u8; 31], w: Take, start: usize
     ensures value { (result ≡ sum_of w start n s.old a d.now / 10 ^ n) × (result ≤ 1) }
 {
     let mut over = start;
-    let mut j = 0;
-    while j < n {
+    for j in 0..n {
         let t = s[a - j] as usize + taken(w, d[30 - j]) + over;
         over = carried(t);
         s[a - j] = (t - 10 * over) as u8;
-        j += 1;
     }
     over
 }
@@ -242,15 +230,13 @@ fn run_on(s: &mut [u8], n: usize, a: usize, w: Take, start: usize) -> usize
     ensures value { result ≡ alone w start n s.old a / 10 ^ n }
 {
     let mut over = start;
-    let mut j = 0;
-    while j < n {
+    for j in 0..n {
         if over == still(w) {
             return over;
         }
         let t = s[a - j] as usize + taken(w, 0) + over;
         over = carried(t);
         s[a - j] = (t - 10 * over) as u8;
-        j += 1;
     }
     over
 }
@@ -275,12 +261,10 @@ fn turned(s: &mut [u8], n: usize, a: usize)
     ensures { s.new ≡ zoned_bytes s.old n a false (round_of n s.old a) }
 {
     let mut over = 1;
-    let mut j = 0;
-    while j < n {
+    for j in 0..n {
         let t = 240 + taken(Take::Nines, s[a - j]) + over;
         over = carried(t);
         s[a - j] = (t - 10 * over) as u8;
-        j += 1;
     }
 }
 

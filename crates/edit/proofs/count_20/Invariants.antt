@@ -5,7 +5,4 @@ use Rattle.manual.specs.Edit.{count20}
 use Rattle.edit.proofs.count_20.Given as goal
 
 abbrev pub invariant-loop-i : goal.invariant-loop-i
-invariant-loop-i l = record { within : l.i ≤ l.n; few : l.count ≤ l.i; counted : count20 (bytes_of l.s l.n l.a) ≡ l.count + count20 (bytes_of l.s (l.n - l.i) (l.a - l.i)) }
-
-abbrev pub decreases-loop-i : goal.decreases-loop-i
-decreases-loop-i l = l.n - l.i
+invariant-loop-i l = record { few : l.count ≤ l.i; counted : count20 (bytes_of l.s l.n l.a) ≡ l.count + count20 (bytes_of l.s (l.n - l.i) (l.a - l.i)) }

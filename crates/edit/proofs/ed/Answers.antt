@@ -1,7 +1,6 @@
 -- `edit::ed`: the digits that are copied are enough for the pattern, and with them it does what the rule says.
-use Rattle.std.proofs.Common.{rules, ◌≡◌, ◌+◌, ap, ◌∙◌, length, take, arith}
-use Rattle.manual.proofs.FieldBytes.{bytes_length}
-use Rattle.edit.proofs.Rules.{reach_in, source_stops, digit_stops, ed_goes}
+use Rattle.std.proofs.Common.{rules, ◌+◌, ◌≤◌, length, arith}
+use Rattle.edit.proofs.Rules.{reach_in, lent_in, lent_full, source_stops, digit_stops, ed_goes}
 use Rattle.edit.proofs.ed.Goals as goal
 
 pub returns-in_err-source_reach : goal.returns-in_err-source_reach
@@ -10,13 +9,20 @@ returns-in_err-source_reach c = search (rules, source_stops)
 pub returns-in_err-digits_of : goal.returns-in_err-digits_of
 returns-in_err-digits_of c = search (rules, digit_stops)
 
+pub take-requires : goal.take-requires
+take-requires c = search (rules, lent_in)
+
 pub put_edited-requires : goal.put_edited-requires
 put_edited-requires c =
     let h = reach_in (length c.args.s.now) (c.args.f.q + 1) c.args.f.a1 c.in_ok-reach.ensures in
-    let copied : length (take c.count_20-count.result c.take.new.d) ≡ c.count_20-count.result = ap length c.take.ensures ∙ bytes_length _ _ _ in
-    (h.0, h.1, omega arith)
+    let few : c.count_20-count.result ≤ 256 = omega arith in
+    let e = lent_full _ c.take.new.d c.count_20-count.result c.take.auto.d few in
+    omega arith
 
 pub returns : goal.returns
 returns c =
+    let h = reach_in (length c.args.s.now) (c.args.f.q + 1) c.args.f.a1 c.in_ok-reach.ensures in
+    let few : c.count_20-count.result ≤ 256 = omega arith in
+    let e = lent_full _ c.take.new.d c.count_20-count.result c.take.auto.d few in
     rw (c.set_order-m.ensures, c.value_order.ensures.0)
-    (ed_goes c.args.m.now c.args.s.now c.args.f c.in_ok-reach.ensures _ c.count_20-count.ensures.0 c.in_ok-source_reach.ensures _ c.take.ensures c.put_edited.new.s c.in_ok-digits_of.ensures c.put_edited.ensures)
+    (ed_goes c.args.m.now c.args.s.now c.args.f c.in_ok-reach.ensures _ c.count_20-count.ensures.0 c.in_ok-source_reach.ensures _ (rw e at c.take.ensures) c.put_edited.new.s c.in_ok-digits_of.ensures c.put_edited.ensures)

@@ -1,11 +1,8 @@
 -- The digits so far are zero.
-use Rattle.std.proofs.Common.{◌≡◌, ◌-◌, ◌≤◌, ◌<◌, ℕ, get_or}
+use Rattle.std.proofs.Common.{◌≡◌, ◌-◌, ◌<◌, ℕ, get_or}
 use Rattle.manual.specs.Values.{digit}
 use Rattle.zoned.proofs.is_zero.Given as goal
 
 abbrev pub invariant-loop-i : goal.invariant-loop-i
 invariant-loop-i l =
-    record { within : l.i ≤ l.n; zero : (j : ℕ) → j < l.i → digit (get_or l.s (l.a - j) 0) ≡ 0 }
-
-abbrev pub decreases-loop-i : goal.decreases-loop-i
-decreases-loop-i l = l.n - l.i
+    record { zero : (j : ℕ) → j < l.i → digit (get_or l.s (l.a - j) 0) ≡ 0 }

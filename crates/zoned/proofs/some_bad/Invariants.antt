@@ -1,11 +1,7 @@
 -- All digits so far, from the left, were 9 or below, or they weren't.
-use Rattle.std.proofs.Common.{◌-◌, ◌≤◌}
 use Rattle.zoned.proofs.Fields.{Told}
 use Rattle.zoned.proofs.some_bad.Given as goal
 
 abbrev pub invariant-loop-i : goal.invariant-loop-i
 invariant-loop-i l =
-    record { within : l.i ≤ l.k; told : Told l.s l.left l.bad l.i }
-
-abbrev pub decreases-loop-i : goal.decreases-loop-i
-decreases-loop-i l = l.k - l.i
+    record { told : Told l.s l.left l.bad l.i }
