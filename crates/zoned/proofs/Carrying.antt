@@ -1,6 +1,6 @@
 -- Columns in two parts, those with digits to add and those left of them, where only the carry runs on. What carries it: ten to the k takes the first k columns off.
 use mathlib.Core.Path.{◌≡◌, refl, sym, ap, ◌∙◌}
-use mathlib.Core.Bool.{false}
+use mathlib.Core.Bool.{true, Bool, false}
 use mathlib.Core.List.{List}
 use mathlib.Core.Logic.{inl, inr}
 use Prim.Native.Nat.{ℕ, zero, suc, ◌+◌, ◌-◌, ◌*◌, ◌/◌, ◌%◌, ◌^◌, ◌≤◌, ◌<◌}
@@ -12,8 +12,6 @@ use Rattle.manual.specs.Values.{bytes_of, digit, size}
 use Rattle.manual.proofs.Digits.{ten_pos, digit_at, digit-cut, digit_small}
 use Rattle.manual.proofs.FieldBytes.{written_inside, written_outside, written_length, written_once, Outside}
 use Rattle.manual.proofs.ZonedRead.{zoned_byte, zoned_bytes, size_read, digits_read, digit_of_size}
-use Rattle.zoned.specs.declared.Take.{Take}
-use Rattle.zoned.specs.declared.Take.TheVariants.{Plain, Nines}
 use Rattle.zoned.specs.Working.{part, added_up, still, sum_of, alone, Field, Operands}
 use Rattle.zoned.proofs.Summing.{part_next, part_none, byte_of}
 
@@ -35,13 +33,13 @@ digit_more x j q = ap (λ (k : ℕ). k % 10) (div_more x j q)
 
 -- ---- where the carry stands still
 
-still_left : (w : Take) (c m x : ℕ) → c ≡ still w → part Plain m x + part w m 0 + c ≡ x % 10 ^ m + 10 ^ m * c
-still_left Plain c m x e = rw e (omega (arith, zero-mod (10 ^ m)))
-still_left Nines c m x e = rw e (omega (arith, zero-mod (10 ^ m), ten_pos m))
+still_left : (w : Bool) (c m x : ℕ) → c ≡ still w → part false m x + part w m 0 + c ≡ x % 10 ^ m + 10 ^ m * c
+still_left false c m x e = rw e (omega (arith, zero-mod (10 ^ m)))
+still_left true c m x e = rw e (omega (arith, zero-mod (10 ^ m), ten_pos m))
 
-module _ (w : Take) (n j x c T : ℕ) (le : j ≤ n) (e : c ≡ still w) (left : T / 10 ^ j ≡ added_up Plain w c (n - j) (x / 10 ^ j) (0 / 10 ^ j)) where
+module _ (w : Bool) (n j x c T : ℕ) (le : j ≤ n) (e : c ≡ still w) (left : T / 10 ^ j ≡ added_up false w c (n - j) (x / 10 ^ j) (0 / 10 ^ j)) where
   rest : T / 10 ^ j ≡ x / 10 ^ j % 10 ^ (n - j) + 10 ^ (n - j) * c
-  rest = left ∙ ap (λ (z : ℕ). added_up Plain w c (n - j) (x / 10 ^ j) z) (zero-div (10 ^ j)) ∙ still_left w c (n - j) (x / 10 ^ j) e
+  rest = left ∙ ap (λ (z : ℕ). added_up false w c (n - j) (x / 10 ^ j) z) (zero-div (10 ^ j)) ∙ still_left w c (n - j) (x / 10 ^ j) e
 
   pub still_over : c ≡ T / 10 ^ n
   still_over =
@@ -66,8 +64,8 @@ unfolding zoned_byte
 plain_byte m j = refl
 
 -- the bytes left of it are those of the whole sum
-pub still_field : (w : Take) (s t : List ℕ) (n a j c T : ℕ) → Field s n a → j ≤ n → c ≡ still w
-    → T / 10 ^ j ≡ added_up Plain w c (n - j) (size (bytes_of s n a) / 10 ^ j) (0 / 10 ^ j) → t ≡ zoned_bytes s j a false T → t ≡ zoned_bytes s n a false T
+pub still_field : (w : Bool) (s t : List ℕ) (n a j c T : ℕ) → Field s n a → j ≤ n → c ≡ still w
+    → T / 10 ^ j ≡ added_up false w c (n - j) (size (bytes_of s n a) / 10 ^ j) (0 / 10 ^ j) → t ≡ zoned_bytes s j a false T → t ≡ zoned_bytes s n a false T
 still_field w s t n a j c T o le e left is =
     rw is (written_once s n a (zoned_byte false T) (zoned_bytes s j a false T) inn fits (written_length s j a (zoned_byte false T)) (λ p q. pick p q (dec_lt p j)) outside)
   where
@@ -90,7 +88,7 @@ still_field w s t n a j c T o le e left is =
 
 -- ---- columns in two parts
 
-part_split : (v : Take) (k m x : ℕ) → part v (k + m) x ≡ part v k x + 10 ^ k * part v m (x / 10 ^ k)
+part_split : (v : Bool) (k m x : ℕ) → part v (k + m) x ≡ part v k x + 10 ^ k * part v m (x / 10 ^ k)
 part_split v zero m x =
     let e : zero + m ≡ m = omega arith in
     ap (λ (i : ℕ). part v i x) e ∙ ap (λ (z : ℕ). part v m z) (sym (div-one x)) ∙ omega (arith, part_none v x, one-mul (part v m (x / 10 ^ 0)))
@@ -101,29 +99,29 @@ part_split v (suc k) m x =
     rw (q, pow-succ' 10 k) (mul_assoc 10 (10 ^ k) (part v m (x / 10 / 10 ^ k))) in
     ap (λ (i : ℕ). part v i x) e ∙ omega (arith, part_next v (k + m) x, part_next v k x, part_split v k m (x / 10), d)
 
-part_mod : (v : Take) (k x : ℕ) → part v k (x % 10 ^ k) ≡ part v k x
-part_mod Plain k x = mod-mod x (10 ^ k)
-part_mod Nines k x = ap (λ (z : ℕ). 10 ^ k - 1 - z) (mod-mod x (10 ^ k))
+part_mod : (v : Bool) (k x : ℕ) → part v k (x % 10 ^ k) ≡ part v k x
+part_mod false k x = mod-mod x (10 ^ k)
+part_mod true k x = ap (λ (z : ℕ). 10 ^ k - 1 - z) (mod-mod x (10 ^ k))
 
 -- T2 is the sum of k columns, and T1 that of the m left of them
-module _ (w : Take) (k m x y c : ℕ) (small : y < 10 ^ k) where
+module _ (w : Bool) (k m x y c : ℕ) (small : y < 10 ^ k) where
   abbrev T : ℕ
-  T = added_up Plain w c (k + m) x y
+  T = added_up false w c (k + m) x y
 
   abbrev T2 : ℕ
-  T2 = added_up Plain w c k (x % 10 ^ k) (y % 10 ^ k)
+  T2 = added_up false w c k (x % 10 ^ k) (y % 10 ^ k)
 
   abbrev T1 : ℕ
-  T1 = added_up Plain w (T2 / 10 ^ k) m (x / 10 ^ k % 10 ^ m) 0
+  T1 = added_up false w (T2 / 10 ^ k) m (x / 10 ^ k % 10 ^ m) 0
 
   glued : T ≡ T2 % 10 ^ k + 10 ^ k * T1
   glued =
       let P : ℕ = 10 ^ k in
-      let X : ℕ = part Plain m (x / 10 ^ k) in
+      let X : ℕ = part false m (x / 10 ^ k) in
       let Y : ℕ = part w m (y / 10 ^ k) in
-      let one : T ≡ T2 + (10 ^ k * X + 10 ^ k * Y) = omega (arith, part_split Plain k m x, part_split w k m y, part_mod Plain k x, part_mod w k y) in
+      let one : T ≡ T2 + (10 ^ k * X + 10 ^ k * Y) = omega (arith, part_split false k m x, part_split w k m y, part_mod false k x, part_mod w k y) in
       let two : T1 ≡ T2 / 10 ^ k + (X + Y) =
-      ap (λ (z : ℕ). part Plain m (x / 10 ^ k % 10 ^ m) + part w m z + T2 / 10 ^ k) (sym (div-eq_of_lt small)) ∙ omega (arith, part_mod Plain m (x / 10 ^ k)) in
+      ap (λ (z : ℕ). part false m (x / 10 ^ k % 10 ^ m) + part w m z + T2 / 10 ^ k) (sym (div-eq_of_lt small)) ∙ omega (arith, part_mod false m (x / 10 ^ k)) in
       let three : 10 ^ k * T1 ≡ 10 ^ k * (T2 / 10 ^ k) + (10 ^ k * X + 10 ^ k * Y) =
       ap (λ (z : ℕ). 10 ^ k * z) two ∙ mul-add (10 ^ k) (T2 / 10 ^ k) (X + Y) ∙ ap (λ (z : ℕ). 10 ^ k * (T2 / 10 ^ k) + z) (mul-add (10 ^ k) X Y) in
       omega (arith, one, three, mod-add-div T2 (10 ^ k))
@@ -144,8 +142,24 @@ module _ (w : Take) (k m x y c : ℕ) (small : y < 10 ^ k) where
   glued_left : (j : ℕ) → digit_at T1 j ≡ digit_at T (k + j)
   glued_left j = ap (λ (z : ℕ). digit_at z j) (sym above) ∙ sym (digit_more T k j)
 
+-- the operands of the k columns
+pub fewer : (s d : List ℕ) (n k a : ℕ) → Operands s n a d → k ≤ n → Operands s k a d
+fewer s d n k a o le =
+    let fits : n ≤ a + 1 = o.field.fits in
+    record {
+      field =
+          record {
+            inside = o.field.inside;
+            fits = omega arith;
+            digits = digits_read s k a (λ j q. rw (digit_of_size s n a j o.field.digits (omega arith)) (digit_small (size (bytes_of s n a)) j));
+            zones = λ j q. o.field.zones j (omega arith);
+          };
+      most = omega (arith, o.most);
+      digits_two = digits_read d k 30 (λ j q. rw (digit_of_size d n 30 j o.digits_two (omega arith)) (digit_small (size (bytes_of d n 30)) j));
+    }
+
 -- what k columns and then the m left of them leave, is what all leave
-module _ (w : Take) (s d : List ℕ) (n k a c : ℕ) (o : Operands s n a d) (le : k ≤ n) (small : size (bytes_of d n 30) < 10 ^ k) where
+module _ (w : Bool) (s d : List ℕ) (n k a c : ℕ) (o : Operands s n a d) (le : k ≤ n) (small : size (bytes_of d n 30) < 10 ^ k) where
   abbrev x : ℕ
   x = size (bytes_of s n a)
 
@@ -157,21 +171,6 @@ module _ (w : Take) (s d : List ℕ) (n k a c : ℕ) (o : Operands s n a d) (le 
 
   fits : n ≤ a + 1
   fits = o.field.fits
-
-  -- the operands of the k columns
-  pub fewer : Operands s k a d
-  fewer =
-      record {
-        field =
-            record {
-              inside = inn;
-              fits = omega (arith, fits);
-              digits = digits_read s k a (λ j q. rw (digit_of_size s n a j o.field.digits (omega arith)) (digit_small x j));
-              zones = λ j q. o.field.zones j (omega arith);
-            };
-        most = omega (arith, o.most);
-        digits_two = digits_read d k 30 (λ j q. rw (digit_of_size d n 30 j o.digits_two (omega arith)) (digit_small y j));
-      }
 
   right_size : size (bytes_of s k a) ≡ x % 10 ^ k
   right_size = size_read s k a x (λ j q. digit_of_size s n a j o.field.digits (omega arith))
@@ -213,7 +212,7 @@ module _ (w : Take) (s d : List ℕ) (n k a c : ℕ) (o : Operands s n a d) (le 
 
       pub both_over : (r : ℕ) → r ≡ alone w over (n - k) t (a - k) / 10 ^ (n - k) → r ≡ sum_of w c n s a d / 10 ^ n
       both_over r g =
-          g ∙ ap (λ (z : ℕ). z / 10 ^ (n - k)) left_sum ∙ glued_over w k (n - k) x y c small ∙ ap (λ (i : ℕ). added_up Plain w c i x y / 10 ^ i) all_is
+          g ∙ ap (λ (z : ℕ). z / 10 ^ (n - k)) left_sum ∙ glued_over w k (n - k) x y c small ∙ ap (λ (i : ℕ). added_up false w c i x y / 10 ^ i) all_is
 
       pub both_field : k < n → (u : List ℕ) → u ≡ zoned_bytes t (n - k) (a - k) false (alone w over (n - k) t (a - k)) → u ≡ zoned_bytes s n a false (sum_of w c n s a d)
       both_field h u g =
@@ -231,14 +230,14 @@ module _ (w : Take) (s d : List ℕ) (n k a c : ℕ) (o : Operands s n a d) (le 
           digits_right : (j : ℕ) → j < k → zoned_byte false (sum_of w c k s a d) j ≡ zoned_byte false (sum_of w c n s a d) j
           digits_right j q =
               sym (plain_byte (sum_of w c k s a d) j) ∙
-              ap (λ (z : ℕ). 0xF0 + z) (ap (λ (z : ℕ). digit_at z j) right_sum ∙ glued_right w k (n - k) x y c small j q ∙ ap (λ (i : ℕ). digit_at (added_up Plain w c i x y) j) all_is) ∙
+              ap (λ (z : ℕ). 0xF0 + z) (ap (λ (z : ℕ). digit_at z j) right_sum ∙ glued_right w k (n - k) x y c small j q ∙ ap (λ (i : ℕ). digit_at (added_up false w c i x y) j) all_is) ∙
               plain_byte (sum_of w c n s a d) j
 
           digits_left : (j i : ℕ) → k + j ≡ i → zoned_byte false (alone w over (n - k) t (a - k)) j ≡ zoned_byte false (sum_of w c n s a d) i
           digits_left j i z =
               sym (plain_byte (alone w over (n - k) t (a - k)) j) ∙
               ap (λ (z : ℕ). 0xF0 + z)
-              (ap (λ (z : ℕ). digit_at z j) left_sum ∙ glued_left w k (n - k) x y c small j ∙ ap (λ (i : ℕ). digit_at (added_up Plain w c i x y) (k + j)) all_is ∙
+              (ap (λ (z : ℕ). digit_at z j) left_sum ∙ glued_left w k (n - k) x y c small j ∙ ap (λ (i : ℕ). digit_at (added_up false w c i x y) (k + j)) all_is ∙
               ap (λ (i : ℕ). digit_at (sum_of w c n s a d) i) z) ∙
               plain_byte (sum_of w c n s a d) i
 

@@ -17,7 +17,6 @@ use Rattle.manual.proofs.FieldBytes.{written, written_length, written_inside, wr
 use Rattle.manual.proofs.ZonedRead.{zoned_byte, zoned_bytes, minus_read, zoned_size, size_read, digits_read, digit_of_size}
 use Rattle.zoned.proofs.Fields.{field_put}
 use Rattle.zoned.proofs.Summing.{size_below, copy_size, copy_good}
-use Rattle.zoned.specs.declared.Take.TheVariants.{Plain, Nines}
 use Rattle.zoned.specs.Working.{Ready, Field, Operands, sum_of, round_of, sign_put, finished, signed_sum, Left}
 use Rattle.zoned.proofs.Signs.{add_alike, add_unlike, add_other, op_signed, same_sign, other_sign}
 use Rattle.zoned.proofs.Settling.{settled}
@@ -72,7 +71,7 @@ module _ (s d : List ℕ) (n a status : ℕ) (g : Bool) (o : Operands s n a d) (
 
   -- of one sign
   abbrev plus : ℕ
-  plus = sum_of Plain 0 n s a d
+  plus = sum_of false 0 n s a d
 
   plus_is : plus ≡ x + y
   plus_is = omega (arith, mod-eq_of_lt x_small, mod-eq_of_lt y_small)
@@ -87,7 +86,7 @@ module _ (s d : List ℕ) (n a status : ℕ) (g : Bool) (o : Operands s n a d) (
 
   -- of two signs: ten to the n more than the difference
   abbrev ahead : ℕ
-  ahead = sum_of Nines 1 n s a d
+  ahead = sum_of true 1 n s a d
 
   ahead_is : ahead + y ≡ x + P
   ahead_is = omega (arith, mod-eq_of_lt x_small, mod-eq_of_lt y_small, y_small)

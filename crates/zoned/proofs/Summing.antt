@@ -1,6 +1,6 @@
 -- Columns of digits, turn by turn, and the field that a copy is. What carries it: division by ten takes the first column off.
 use mathlib.Core.Path.{◌≡◌, sym, ap, ◌∙◌}
-use mathlib.Core.Bool.{true, false}
+use mathlib.Core.Bool.{Bool, true, false}
 use mathlib.Core.List.{List}
 use mathlib.Core.Logic.{inr}
 use Prim.Native.Nat.{ℕ, suc, ◌+◌, ◌-◌, ◌*◌, ◌/◌, ◌%◌, ◌^◌, ◌≤◌, ◌<◌}
@@ -13,8 +13,6 @@ use Rattle.manual.specs.Values.{bytes_of, digit, zone, size, all_digits}
 use Rattle.manual.proofs.Digits.{ten_pos, digit_at, digit_small, cut_next}
 use Rattle.manual.proofs.FieldBytes.{written, written_next, written_inside, written_outside}
 use Rattle.manual.proofs.ZonedRead.{zoned_byte, zoned_bytes, size_read, digits_read, digit_of_size}
-use Rattle.zoned.specs.declared.Take.{Take}
-use Rattle.zoned.specs.declared.Take.TheVariants.{Plain, Nines}
 use Rattle.zoned.specs.Working.{taken, part, added_up, Field}
 
 -- ---- one column after another
@@ -22,25 +20,25 @@ use Rattle.zoned.specs.Working.{taken, part, added_up, Field}
 div_next : (x i : ℕ) → x / 10 ^ (i + 1) ≡ x / 10 ^ i / 10
 div_next x i = ap (λ (p : ℕ). x / p) (ap (λ (k : ℕ). 10 ^ k) (add-one i) ∙ pow-suc 10 i) ∙ sym (div-div-eq-div-mul x (10 ^ i) 10)
 
-pub part_next : (v : Take) (n x : ℕ) → part v (suc n) x ≡ taken v (x % 10) + 10 * part v n (x / 10)
-part_next Plain n x = sym (cut_next x n)
-part_next Nines n x = omega (arith, cut_next x n, pow-suc 10 n, mod-lt (x / 10) (ten_pos n))
+pub part_next : (v : Bool) (n x : ℕ) → part v (suc n) x ≡ taken v (x % 10) + 10 * part v n (x / 10)
+part_next false n x = sym (cut_next x n)
+part_next true n x = omega (arith, cut_next x n, pow-suc 10 n, mod-lt (x / 10) (ten_pos n))
 
-pub sum_first : (v w : Take) (c n x y : ℕ) → added_up v w c n x y / 10 ^ 0 ≡ added_up v w c (n - 0) (x / 10 ^ 0) (y / 10 ^ 0)
+pub sum_first : (v w : Bool) (c n x y : ℕ) → added_up v w c n x y / 10 ^ 0 ≡ added_up v w c (n - 0) (x / 10 ^ 0) (y / 10 ^ 0)
 sum_first v w c n x y = simp (div-one, sub-zero)
 
-pub part_none : (v : Take) (x : ℕ) → part v 0 x ≡ 0
-part_none Plain x = mod-one x
-part_none Nines x = omega (arith, mod-one x)
+pub part_none : (v : Bool) (x : ℕ) → part v 0 x ≡ 0
+part_none false x = mod-one x
+part_none true x = omega (arith, mod-one x)
 
-pub sum_last : (v w : Take) (c n i x y T : ℕ) → n ≤ i → T / 10 ^ i ≡ added_up v w c (n - i) x y → c ≡ T / 10 ^ i
+pub sum_last : (v w : Bool) (c n i x y T : ℕ) → n ≤ i → T / 10 ^ i ≡ added_up v w c (n - i) x y → c ≡ T / 10 ^ i
 sum_last v w c n i x y T h left =
     let q : n - i ≡ 0 = omega arith in
     let e = rw q at left in
     omega (arith, e, part_none v x, part_none w y)
 
 -- T is the whole sum; t is its column i on top of the zone, with the carry c into it, and k is what that carries on
-module _ (v w : Take) (n i x y c t k T : ℕ) (h : i < n) (left : T / 10 ^ i ≡ added_up v w c (n - i) (x / 10 ^ i) (y / 10 ^ i))
+module _ (v w : Bool) (n i x y c t k T : ℕ) (h : i < n) (left : T / 10 ^ i ≡ added_up v w c (n - i) (x / 10 ^ i) (y / 10 ^ i))
     (e : t ≡ 0xF0 + taken v (digit_at x i) + taken w (digit_at y i) + c) (f : k ≡ (t - 0xF0) / 10) where
   column : T / 10 ^ i + 0xF0 ≡ t + 10 * (part v (n - (i + 1)) (x / 10 ^ i / 10) + part w (n - (i + 1)) (y / 10 ^ i / 10))
   column =

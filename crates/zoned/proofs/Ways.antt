@@ -3,7 +3,7 @@ use mathlib.Core.Path.{◌≡◌, refl, sym, ap, ◌∙◌}
 use mathlib.Core.Bool.{Bool, true, false, cond, false≢true}
 use mathlib.Core.List.{List}
 use Prim.Native.Nat.{ℕ, ◌+◌, ◌≤◌, ◌<◌}
-use lib.IntN.{ℤ}
+use lib.IntN.{ℤ, ◌+ℤ◌, ◌-ℤ◌}
 use lib.ListN.{length}
 use Rattle.std.specs.Prelude.{Result, Ok, Err}
 use Rattle.manual.specs.declared.Machine.{Machine}
@@ -15,7 +15,7 @@ use Rattle.manual.specs.Places.{State, state}
 use Rattle.manual.specs.Programs.{Prog, Out, Rule, clear, unless, and_then, Way}
 use Rattle.manual.specs.Formats.{reach}
 use Rattle.manual.specs.Values.{bytes_of, value, all_digits, digits_of}
-use Rattle.manual.specs.Zoned.{l1, l2, zoned_reach, put_result, zaz, combine}
+use Rattle.manual.specs.Zoned.{l1, l2, zoned_reach, put_result, zaz, combine, az, sz}
 use Rattle.manual.specs.Step.{ended, moved, given, did}
 use Rattle.manual.proofs.Running.{from, did_from, from_bind, from_barred, val_leftward, fin_leftward, unless_clear, both_clear, reach_clear}
 use Rattle.manual.proofs.ZonedRead.{put_left}
@@ -124,10 +124,21 @@ module _ (m : Machine) (s : List ℕ) (f : Fields) where
   zaz_goes = leaf_goes (zaz f) _ _ (zaz_behind m s f)
 
   module _ (op : ℤ → ℤ → ℤ) where
-    pub combine_stops : (y : Stop) (r : Result (Unit {0}) Stop) → Err y ≡ (combine_way s f.q f.a1 f.a2) → r ≡ Err y → Does (combine op f) m s r m s
-    combine_stops y r h e = rw e (leaf_stops (combine op f) _ _ (combine_behind m s f op) y h)
+    stops : (y : Stop) (r : Result (Unit {0}) Stop) → Err y ≡ (combine_way s f.q f.a1 f.a2) → r ≡ Err y → Does (combine op f) m s r m s
+    stops y r h e = rw e (leaf_stops (combine op f) _ _ (combine_behind m s f op) y h)
 
-    pub combine_goes : Ok tt ≡ (combine_way s f.q f.a1 f.a2)
+    goes : Ok tt ≡ (combine_way s f.q f.a1 f.a2)
         → (k : ℕ) (t : List ℕ) → Left s (l1 f.q) f.a1 m.status (op (value (bytes_of s (l1 f.q) f.a1)) (value (bytes_of s (l2 f.q) f.a2))) k t
         → Does (combine op f) m s (Ok tt) (moved m f.next k) t
-    combine_goes = leaf_goes (combine op f) _ _ (combine_behind m s f op)
+    goes = leaf_goes (combine op f) _ _ (combine_behind m s f op)
+
+  -- of AZ, and where less of SZ
+  pub combine_stops : (less : Bool) (y : Stop) (r : Result (Unit {0}) Stop) → Err y ≡ (combine_way s f.q f.a1 f.a2) → r ≡ Err y → Does (cond less sz az f) m s r m s
+  combine_stops true = stops ◌-ℤ◌
+  combine_stops false = stops ◌+ℤ◌
+
+  pub combine_goes : (less : Bool) → Ok tt ≡ (combine_way s f.q f.a1 f.a2)
+      → (k : ℕ) (t : List ℕ) → Left s (l1 f.q) f.a1 m.status (cond less ◌-ℤ◌ ◌+ℤ◌ (value (bytes_of s (l1 f.q) f.a1)) (value (bytes_of s (l2 f.q) f.a2))) k t
+      → Does (cond less sz az f) m s (Ok tt) (moved m f.next k) t
+  combine_goes true = goes ◌-ℤ◌
+  combine_goes false = goes ◌+ℤ◌

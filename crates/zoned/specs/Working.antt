@@ -1,13 +1,11 @@
 -- What the inner functions' promises cite: columns of digits, what stands in the way, and what a result leaves. No published promise does.
-use Rattle.std.specs.Prelude.{◌≡◌, Bool, true, cond, List, ◌⊎◌, ℕ, ◌+◌, ◌-◌, ◌%◌, ◌^◌, ◌≤◌, ◌<◌, ℤ, ◌+ℤ◌, length, get_or, set}
+use Rattle.std.specs.Prelude.{◌≡◌, Bool, true, false, cond, List, ◌⊎◌, ℕ, ◌+◌, ◌-◌, ◌%◌, ◌^◌, ◌≤◌, ◌<◌, ℤ, ◌+ℤ◌, length, get_or, set}
 use Rattle.manual.specs.TheMachine.{decimal_overflow, equal, low, high, turn_on, set_order}
 use Rattle.manual.specs.Programs.{and_then, Way}
 use Rattle.manual.specs.Formats.{reach}
 use Rattle.manual.specs.Values.{bytes_of, digit, zone, size, signed, all_digits, digits_of, cut, left_minus}
 use Rattle.manual.specs.Zoned.{l1, l2, zoned_status}
 use Rattle.manual.proofs.ZonedRead.{zoned_bytes}
-use Rattle.zoned.specs.declared.Take.{Take}
-use Rattle.zoned.specs.declared.Take.TheVariants.{Plain, Nines}
 
 -- ---- what stands in the way
 
@@ -40,35 +38,35 @@ pub record Zones (s : List ℕ) (left k : ℕ) (t : List ℕ) : Type 0 where
 -- ---- columns
 
 -- what a digit adds to its column
-abbrev pub taken : Take → ℕ → ℕ
-taken Plain d = d
-taken Nines d = 9 - d
+abbrev pub taken : Bool → ℕ → ℕ
+taken false d = d
+taken true d = 9 - d
 
 -- what n digits of x add to the sum
-abbrev pub part : Take → ℕ → ℕ → ℕ
-part Plain n x = x % 10 ^ n
-part Nines n x = 10 ^ n - 1 - x % 10 ^ n
+abbrev pub part : Bool → ℕ → ℕ → ℕ
+part false n x = x % 10 ^ n
+part true n x = 10 ^ n - 1 - x % 10 ^ n
 
 -- n columns of x and y, with c carried into the first
-abbrev pub added_up : Take → Take → ℕ → ℕ → ℕ → ℕ → ℕ
+abbrev pub added_up : Bool → Bool → ℕ → ℕ → ℕ → ℕ → ℕ
 added_up v w c n x y = part v n x + part w n y + c
 
 -- the field in storage, and the one that a copy d holds at its right end
-abbrev pub sum_of : Take → ℕ → ℕ → List ℕ → ℕ → List ℕ → ℕ
-sum_of w c n s a d = added_up Plain w c n (size (bytes_of s n a)) (size (bytes_of d n 30))
+abbrev pub sum_of : Bool → ℕ → ℕ → List ℕ → ℕ → List ℕ → ℕ
+sum_of w c n s a d = added_up false w c n (size (bytes_of s n a)) (size (bytes_of d n 30))
 
 -- the field in storage, and a carry
-abbrev pub alone : Take → ℕ → ℕ → List ℕ → ℕ → ℕ
-alone w c n s a = added_up Plain w c n (size (bytes_of s n a)) 0
+abbrev pub alone : Bool → ℕ → ℕ → List ℕ → ℕ → ℕ
+alone w c n s a = added_up false w c n (size (bytes_of s n a)) 0
 
 -- the carry that then changes no digit
-abbrev pub still : Take → ℕ
-still Plain = 0
-still Nines = 1
+abbrev pub still : Bool → ℕ
+still false = 0
+still true = 1
 
 -- ten to the n less the field in storage
 abbrev pub round_of : ℕ → List ℕ → ℕ → ℕ
-round_of n s a = added_up Nines Plain 1 n (size (bytes_of s n a)) 0
+round_of n s a = added_up true false 1 n (size (bytes_of s n a)) 0
 
 -- a field of digits whose zones are F
 pub record Field (s : List ℕ) (n a : ℕ) : Type 0 where

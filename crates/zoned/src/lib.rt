@@ -167,22 +167,13 @@ fn is_zero(s: &[u8], n: usize, a: usize) -> bool
     true
 }
 
-// What a digit adds to its column: itself, or nine less itself.
-#[derive(Clone, Copy)]
-enum Take {
-    Plain,
-    Nines,
-}
-
-fn taken(w: Take, b: u8) -> usize
+// What a digit adds to its column: itself, or where NINES what it lacks of nine.
+fn taken<const NINES: bool>(b: u8) -> usize
     requires { digit b ≤ 9 }
-    ensures { (result ≡ taken w (digit b)) × (result ≤ 9) }
+    ensures { (result ≡ taken NINES (digit b)) × (result ≤ 9) }
 {
     let v = (b % 16) as usize;
-    match w {
-        Take::Plain => v,
-        Take::Nines => 9 - v,
-    }
+    if NINES { 9 - v } else { v }
 }
 
 // What a column carries on, its digits on top of the zone's 240: a comparison, since a division would make the next column wait.
@@ -197,25 +188,22 @@ fn carried(t: usize) -> usize
 }
 
 // The carry that changes no further digit where there are none to add.
-fn still(w: Take) -> usize
-    ensures { result ≡ still w }
+fn still<const NINES: bool>() -> usize
+    ensures { result ≡ still NINES }
 {
-    match w {
-        Take::Plain => 0,
-        Take::Nines => 1,
-    }
+    if NINES { 1 } else { 0 }
 }
 
 // Adds the digits of d to those of the field, column by column from the right. The zones are F, so that a column is 240 and its digits.
-fn columns(s: &mut [u8], n: usize, a: usize, d: &[u8; 31], w: Take, start: usize) -> usize
+fn columns<const NINES: bool>(s: &mut [u8], n: usize, a: usize, d: &[u8; 31], start: usize) -> usize
     requires operands { Operands s.old n a d.now }
     requires start_bound { start ≤ 1 }
-    ensures s_after { s.new ≡ zoned_bytes s.old n a false (sum_of w start n s.old a d.now) }
-    ensures value { (result ≡ sum_of w start n s.old a d.now / 10 ^ n) × (result ≤ 1) }
+    ensures s_after { s.new ≡ zoned_bytes s.old n a false (sum_of NINES start n s.old a d.now) }
+    ensures value { (result ≡ sum_of NINES start n s.old a d.now / 10 ^ n) × (result ≤ 1) }
 {
     let mut over = start;
     for j in 0..n {
-        let t = s[a - j] as usize + taken(w, d[30 - j]) + over;
+        let t = s[a - j] as usize + taken::<NINES>(d[30 - j]) + over;
         over = carried(t);
         s[a - j] = (t - 10 * over) as u8;
     }
@@ -223,18 +211,18 @@ fn columns(s: &mut [u8], n: usize, a: usize, d: &[u8; 31], w: Take, start: usize
 }
 
 // Where there are no more digits to add only the carry runs on, and mostly not far.
-fn run_on(s: &mut [u8], n: usize, a: usize, w: Take, start: usize) -> usize
+fn run_on<const NINES: bool>(s: &mut [u8], n: usize, a: usize, start: usize) -> usize
     requires field { Field s.old n a }
     requires start_bound { start ≤ 1 }
-    ensures s_after { s.new ≡ zoned_bytes s.old n a false (alone w start n s.old a) }
-    ensures value { result ≡ alone w start n s.old a / 10 ^ n }
+    ensures s_after { s.new ≡ zoned_bytes s.old n a false (alone NINES start n s.old a) }
+    ensures value { result ≡ alone NINES start n s.old a / 10 ^ n }
 {
     let mut over = start;
     for j in 0..n {
-        if over == still(w) {
+        if over == still::<NINES>() {
             return over;
         }
-        let t = s[a - j] as usize + taken(w, 0) + over;
+        let t = s[a - j] as usize + taken::<NINES>(0) + over;
         over = carried(t);
         s[a - j] = (t - 10 * over) as u8;
     }
@@ -242,15 +230,22 @@ fn run_on(s: &mut [u8], n: usize, a: usize, w: Take, start: usize) -> usize
 }
 
 // Adds d, which has k digits, to the n of the field.
-fn added(s: &mut [u8], n: usize, a: usize, k: usize, d: &[u8; 31], w: Take, start: usize) -> usize
+fn added<const NINES: bool>(
+    s: &mut [u8],
+    n: usize,
+    a: usize,
+    k: usize,
+    d: &[u8; 31],
+    start: usize,
+) -> usize
     requires operands { Operands s.old n a d.now }
     requires k_le_n { (k ≤ n) × (size (bytes_of d.now n 30) < 10 ^ k) × (start ≤ 1) }
-    ensures s_after { s.new ≡ zoned_bytes s.old n a false (sum_of w start n s.old a d.now) }
-    ensures value { result ≡ sum_of w start n s.old a d.now / 10 ^ n }
+    ensures s_after { s.new ≡ zoned_bytes s.old n a false (sum_of NINES start n s.old a d.now) }
+    ensures value { result ≡ sum_of NINES start n s.old a d.now / 10 ^ n }
 {
-    let over = columns(s, k, a, d, w, start);
+    let over = columns::<NINES>(s, k, a, d, start);
     if k < n {
-        return run_on(s, n - k, a - k, w, over);
+        return run_on::<NINES>(s, n - k, a - k, over);
     }
     over
 }
@@ -262,7 +257,7 @@ fn turned(s: &mut [u8], n: usize, a: usize)
 {
     let mut over = 1;
     for j in 0..n {
-        let t = 240 + taken(Take::Nines, s[a - j]) + over;
+        let t = 240 + taken::<true>(s[a - j]) + over;
         over = carried(t);
         s[a - j] = (t - 10 * over) as u8;
     }
@@ -307,7 +302,7 @@ fn sum(s: &mut [u8], n: usize, a: usize, k: usize, d: &[u8; 31], minus: bool, st
     requires n_nonzero { 0 < n }
     ensures { Left s.old n a status (signed_sum minus minus s.old n a d.now) result s.new }
 {
-    let over = added(s, n, a, k, d, Take::Plain, 0);
+    let over = added::<false>(s, n, a, k, d, 0);
     let clear = is_zero(s, n, a);
     finish(s, a, minus, over == 1, clear, status)
 }
@@ -328,7 +323,7 @@ fn difference(
     requires n_nonzero { 0 < n }
     ensures { Left s.old n a status (signed_sum minus (not minus) s.old n a d.now) result s.new }
 {
-    let over = added(s, n, a, k, d, Take::Nines, 1);
+    let over = added::<true>(s, n, a, k, d, 1);
     if over == 1 {
         let clear = is_zero(s, n, a);
         return finish(s, a, minus, false, clear, status);
@@ -360,15 +355,15 @@ fn put_second(s: &mut [u8], q: u8, a1: usize, a2: usize, status: u8) -> u8
     finish(s, a1, minus, false, clear, status)
 }
 
-// AZ adds operand 2, SZ takes it off.
-fn combined(s: &mut [u8], q: u8, a1: usize, a2: usize, less: bool, status: u8) -> u8
+// AZ adds operand 2, SZ (LESS) takes it off.
+fn combined<const LESS: bool>(s: &mut [u8], q: u8, a1: usize, a2: usize, status: u8) -> u8
     requires ready { Ready s.old q a1 a2 }
     requires a1_value { all_digits (bytes_of s.old (l1 q) a1) ≡ true }
-    ensures { Left s.old (l1 q) a1 status (cond less ◌-ℤ◌ ◌+ℤ◌ (value (bytes_of s.old (l1 q) a1)) (value (bytes_of s.old (l2 q) a2))) result s.new }
+    ensures { Left s.old (l1 q) a1 status (cond LESS ◌-ℤ◌ ◌+ℤ◌ (value (bytes_of s.old (l1 q) a1)) (value (bytes_of s.old (l2 q) a2))) result s.new }
 {
     let d = copied(s, l2(q), a2);
     let m1 = is_minus(s[a1]);
-    let m2 = is_minus(s[a2]) != less;
+    let m2 = is_minus(s[a2]) != LESS;
     put_zone(s, l1(q), a1);
     if m1 == m2 {
         return sum(s, l1(q), a1, l2(q), &d, m1, status);
@@ -389,24 +384,14 @@ pub fn zaz(m: &mut Machine, s: &mut [u8], f: Fields) -> Result<(), Stop>
     Ok(())
 }
 
-pub fn az(m: &mut Machine, s: &mut [u8], f: Fields) -> Result<(), Stop>
-    ensures { Does (az f) m.old s.old result m.new s.new }
+/// AZ, and where LESS SZ.
+pub fn combine<const LESS: bool>(m: &mut Machine, s: &mut [u8], f: Fields) -> Result<(), Stop>
+    ensures { Does (cond LESS sz az f) m.old s.old result m.new s.new }
 {
     let a = f.a1 as usize;
     let b = f.a2 as usize;
     combine_way(s, f.q, a, b)?;
-    m.status = combined(s, f.q, a, b, false, m.status);
-    m.iar = f.next;
-    Ok(())
-}
-
-pub fn sz(m: &mut Machine, s: &mut [u8], f: Fields) -> Result<(), Stop>
-    ensures { Does (sz f) m.old s.old result m.new s.new }
-{
-    let a = f.a1 as usize;
-    let b = f.a2 as usize;
-    combine_way(s, f.q, a, b)?;
-    m.status = combined(s, f.q, a, b, true, m.status);
+    m.status = combined::<LESS>(s, f.q, a, b, m.status);
     m.iar = f.next;
     Ok(())
 }

@@ -4,13 +4,13 @@ use Rattle.zoned.proofs.Going.{going_start, second_low, columns_small, columns_n
 use Rattle.zoned.proofs.columns.Goals as goal
 
 pub loop-j-init : goal.loop-j-init
-loop-j-init c = search (rules, going_start)
+loop-j-init g c = search (rules, going_start)
 
 pub taken-requires : goal.taken-requires
-taken-requires c = search (rules, second_low)
+taken-requires g c = search (rules, second_low)
 
 pub carried-over-requires : goal.carried-over-requires
-carried-over-requires c = search (rules, columns_small)
+carried-over-requires g c = search (rules, columns_small)
 
 pub loop-j-preserved : goal.loop-j-preserved
-loop-j-preserved c = search (rules, columns_next)
+loop-j-preserved g c = search (rules, columns_next)

@@ -4,16 +4,16 @@ use Rattle.zoned.proofs.Going.{going_start, run_on_small, run_on_next, still_put
 use Rattle.zoned.proofs.run_on.Goals as goal
 
 pub loop-j-init : goal.loop-j-init
-loop-j-init c = search (rules, going_start)
+loop-j-init g c = search (rules, going_start)
 
 pub returns-then-over-still-clause-s_after : goal.returns-then-over-still-clause-s_after
-returns-then-over-still-clause-s_after c = search (rules, still_put)
+returns-then-over-still-clause-s_after g c = search (rules, still_put)
 
 pub returns-then-over-still-clause-value : goal.returns-then-over-still-clause-value
-returns-then-over-still-clause-value c = search (rules, still_carry)
+returns-then-over-still-clause-value g c = search (rules, still_carry)
 
 pub carried-over-requires : goal.carried-over-requires
-carried-over-requires c = search (rules, run_on_small)
+carried-over-requires g c = search (rules, run_on_small)
 
 pub loop-j-preserved : goal.loop-j-preserved
-loop-j-preserved c = search (rules, run_on_next)
+loop-j-preserved g c = search (rules, run_on_next)

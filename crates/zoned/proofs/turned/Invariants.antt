@@ -1,7 +1,7 @@
 -- As of `columns`, with nines less the field and nothing to add.
-use Rattle.zoned.specs.declared.Take.TheVariants.{Plain, Nines}
+use Rattle.std.proofs.Common.{true, false}
 use Rattle.zoned.proofs.Going.{Going}
 use Rattle.zoned.proofs.turned.Given as goal
 
 abbrev pub invariant-loop-j : goal.invariant-loop-j
-invariant-loop-j l = Going Nines Plain l.fn.s l.n l.a 0 1 l.s l.over l.j
+invariant-loop-j l = Going true false l.fn.s l.n l.a 0 1 l.s l.over l.j

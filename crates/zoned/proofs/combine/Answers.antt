@@ -1,0 +1,18 @@
+-- What stands in the way is tested first, and the rest adds or subtracts.
+use Rattle.std.proofs.Common.{rules}
+use denote.Param.{number}
+use Rattle.zoned.specs.contracts.combine.{LESS-type}
+use Rattle.zoned.proofs.Ways.{combine_ready, combine_digits, combine_stops, combine_goes}
+use Rattle.zoned.proofs.combine.Goals as goal
+
+pub returns-in_err-combine_way : goal.returns-in_err-combine_way
+returns-in_err-combine_way g c = search (rules, combine_stops)
+
+pub combined-m-requires-clause-ready : goal.combined-m-requires-clause-ready
+combined-m-requires-clause-ready g c = search (rules, combine_ready)
+
+pub combined-m-requires-clause-a1_value : goal.combined-m-requires-clause-a1_value
+combined-m-requires-clause-a1_value g c = search (rules, combine_digits)
+
+pub returns : goal.returns
+returns g c = combine_goes c.args.m.now c.args.s.now c.args.f (LESS-type (number g.row.LESS)) c.in_ok-combine_way.ensures c.combined-m.result c.combined-m.new.s c.combined-m.ensures
