@@ -20,8 +20,8 @@ fn execute(m: &mut Machine, s: &mut [u8], op: Operation, f: Fields) -> Result<()
 {
     match op {
         Operation::Zaz => zoned::zaz(m, s, f),
-        Operation::Az => zoned::az(m, s, f),
-        Operation::Sz => zoned::sz(m, s, f),
+        Operation::Az => zoned::combine::<false>(m, s, f),
+        Operation::Sz => zoned::combine::<true>(m, s, f),
         Operation::Mvx => edit::mvx(m, s, f),
         Operation::Ed => edit::ed(m, s, f),
         Operation::Itc => edit::itc(m, s, f),
