@@ -1,4 +1,4 @@
-// ST, L, A, S, LA, BC, JC and SVC: each does what its rule says.
+//! ST, L, A, S, LA, BC, JC and SVC: each does what its rule says. The address of two bytes is that of the rightmost; 7 where they aren't in storage.
 #![tactic(auto)]
 
 ghost use Rattle.std.specs.Prelude.{◌≡◌, ◌*◌, ◌+◌, ◌-◌, ◌<◌, ◌≤◌, length, get_or};
@@ -19,6 +19,7 @@ fn word(s: &[u8], a: usize) -> u16
     u16::from_be_bytes([s[a - 1], s[a]])
 }
 
+/// ST: the register that Q names goes to storage; of the status a zero byte and the status.
 #[tactic(auto, unfolding(manual::specs::Registers::store, manual::specs::Programs::unless, manual::specs::Programs::val, manual::specs::Programs::fin, manual::specs::Step::did, manual::specs::Formats::reach))]
 pub fn store(m: &mut Machine, s: &mut [u8], f: Fields) -> Result<(), Stop>
     ensures { Does (store f) m.old s.old result m.new s.new }
@@ -52,6 +53,7 @@ fn loaded_status(b: u8) -> u8
     b % 64 / 8 * 8 + order
 }
 
+/// L: the register that Q names comes from storage.
 #[tactic(auto, unfolding(manual::specs::Registers::load, manual::specs::Programs::unless, manual::specs::Programs::val, manual::specs::Programs::fin, manual::specs::Step::did, manual::specs::Formats::reach))]
 pub fn load(m: &mut Machine, s: &[u8], f: Fields) -> Result<(), Stop>
     ensures { Does (load f) m.old s.now result m.new s.now }
@@ -67,7 +69,7 @@ pub fn load(m: &mut Machine, s: &[u8], f: Fields) -> Result<(), Stop>
     Ok(())
 }
 
-// 16-bit sum and difference, with the carry or borrow told apart.
+/// A: the bytes are added to the register in 16 bits, the carry told apart; the status as after ALC.
 #[tactic(auto, unfolding(manual::specs::Registers::add, manual::specs::Programs::unless, manual::specs::Programs::val, manual::specs::Programs::fin, manual::specs::Step::did, manual::specs::Formats::reach))]
 pub fn add(m: &mut Machine, s: &[u8], f: Fields) -> Result<(), Stop>
     ensures { Does (add f) m.old s.now result m.new s.now }
@@ -85,6 +87,7 @@ pub fn add(m: &mut Machine, s: &[u8], f: Fields) -> Result<(), Stop>
     Ok(())
 }
 
+/// S: the bytes are taken off the register in 16 bits, the borrow told apart; the status as after SLC.
 #[tactic(auto, unfolding(manual::specs::Registers::subtract, manual::specs::Programs::unless, manual::specs::Programs::val, manual::specs::Programs::fin, manual::specs::Step::did, manual::specs::Formats::reach))]
 pub fn subtract(m: &mut Machine, s: &[u8], f: Fields) -> Result<(), Stop>
     ensures { Does (subtract f) m.old s.now result m.new s.now }
@@ -102,6 +105,7 @@ pub fn subtract(m: &mut Machine, s: &[u8], f: Fields) -> Result<(), Stop>
     Ok(())
 }
 
+/// LA: the address goes to the register that Q names.
 #[tactic(auto, unfolding(manual::specs::Branches::load_address, manual::specs::Programs::val, manual::specs::Programs::fin, manual::specs::Step::did))]
 pub fn load_address(m: &mut Machine, s: &[u8], f: Fields) -> Result<(), Stop>
     ensures { Does (load_address f) m.old s.now result m.new s.now }
@@ -161,6 +165,7 @@ fn after_taken(q: u8, status: u8) -> u8
     }
 }
 
+/// BC: where it is taken, IAR is the address and ARR the next instruction; where not, the other way round.
 #[tactic(auto, unfolding(manual::specs::Branches::branch, manual::specs::Programs::val, manual::specs::Programs::fin, manual::specs::Step::did))]
 pub fn branch(m: &mut Machine, s: &[u8], f: Fields) -> Result<(), Stop>
     ensures { Does (branch f) m.old s.now result m.new s.now }
@@ -177,6 +182,7 @@ pub fn branch(m: &mut Machine, s: &[u8], f: Fields) -> Result<(), Stop>
     Ok(())
 }
 
+/// JC: where it is taken, IAR is the target; ARR stays.
 #[tactic(auto, unfolding(manual::specs::Branches::jump, manual::specs::Programs::val, manual::specs::Programs::fin, manual::specs::Step::did))]
 pub fn jump(m: &mut Machine, s: &[u8], f: Fields) -> Result<(), Stop>
     ensures { Does (jump f) m.old s.now result m.new s.now }
@@ -191,6 +197,7 @@ pub fn jump(m: &mut Machine, s: &[u8], f: Fields) -> Result<(), Stop>
     Ok(())
 }
 
+/// SVC: stops with 9, and its Q and R bytes.
 #[tactic(auto, unfolding(manual::specs::Branches::call, manual::specs::Programs::val, manual::specs::Programs::fin, manual::specs::Step::did))]
 pub fn call(m: &mut Machine, s: &[u8], f: Fields) -> Result<(), Stop>
     ensures { Does (call f) m.old s.now result m.new s.now }

@@ -1,4 +1,4 @@
-// The decoder: the sixteen-entry table by the opcode's left digit, and the instruction at IAR, or a stop in the order 4, 5, 4, 6.
+//! The decoder: the sixteen-entry table by the opcode's left digit, and the instruction at IAR, or a stop in the order 4, 5, 4, 6.
 #![tactic(auto)]
 
 ghost use Rattle.std.specs.Prelude.{◌≡◌, ℕ, true, ◌+◌, ◌/◌, ◌%◌, ◌<◌, ◌≤◌, T, length, get_or};
@@ -13,13 +13,17 @@ ghost use Rattle.decode.specs.Code.{code_named, code_opcode};
 
 use manual::{Base, Form, Group, Machine, Operation};
 
-// The stops hold nothing: one that held a value would cost the run's loop its registers.
+/// What decoding gives, in the run's loop. An enum of its own, which the loop takes apart by `let .. else`, with its parts one by one and stops that hold
+/// nothing: a `Result` of a struct would be packed into memory and cost the loop half as much again.
 #[derive(Clone, Copy)]
 pub enum Fetched {
-    // the operation, the Q and R bytes, the addresses of the operands, and of the next instruction
+    /// The operation, the Q and R bytes, the addresses of both operands, and of the next instruction.
     Go(Operation, u8, u8, u16, u16, u16),
+    /// 4.
     PastStorage,
+    /// 5.
     Unnamed,
+    /// 6.
     QNotAllowed,
 }
 

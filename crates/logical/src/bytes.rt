@@ -1,4 +1,4 @@
-// TBN, TBF, SBN, SBF, MVI, CLI, SLI: one byte, with Q as a mask or as the other byte.
+//! TBN, TBF, SBN, SBF, MVI, CLI, SLI: one byte, with Q as a mask or as the other byte; 7 where it isn't in storage.
 
 ghost use Rattle.std.specs.Prelude.{◌≡◌};
 ghost use Rattle.manual.specs.Immediate.{mvi, cli, sli};
@@ -38,6 +38,7 @@ pub fn set_bits<const ON: bool>(m: &mut Machine, s: &mut [u8], f: Fields) -> Res
     Ok(())
 }
 
+/// MVI: the byte becomes Q.
 #[tactic(auto, unfolding(manual::specs::Immediate::mvi, manual::specs::Programs::unless, manual::specs::Programs::val, manual::specs::Programs::fin, manual::specs::Step::did, manual::specs::Formats::reach))]
 pub fn mvi(m: &mut Machine, s: &mut [u8], f: Fields) -> Result<(), Stop>
     ensures { Does (mvi f) m.old s.old result m.new s.new }
@@ -49,6 +50,7 @@ pub fn mvi(m: &mut Machine, s: &mut [u8], f: Fields) -> Result<(), Stop>
     Ok(())
 }
 
+/// CLI: the byte against Q, unsigned.
 #[tactic(auto, unfolding(manual::specs::Immediate::cli, manual::specs::Programs::unless, manual::specs::Programs::val, manual::specs::Programs::fin, manual::specs::Step::did, manual::specs::Formats::reach))]
 pub fn cli(m: &mut Machine, s: &[u8], f: Fields) -> Result<(), Stop>
     ensures { Does (cli f) m.old s.now result m.new s.now }
@@ -60,6 +62,7 @@ pub fn cli(m: &mut Machine, s: &[u8], f: Fields) -> Result<(), Stop>
     Ok(())
 }
 
+/// SLI: Q is taken off the byte; the status as after SLC.
 #[tactic(auto, unfolding(manual::specs::Immediate::sli, manual::specs::Programs::unless, manual::specs::Programs::val, manual::specs::Programs::fin, manual::specs::Step::did, manual::specs::Formats::reach))]
 pub fn sli(m: &mut Machine, s: &mut [u8], f: Fields) -> Result<(), Stop>
     ensures { Does (sli f) m.old s.old result m.new s.new }

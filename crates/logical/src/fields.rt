@@ -1,4 +1,4 @@
-// MVC, CLC, ALC, SLC: two fields of one length.
+//! MVC, CLC, ALC, SLC: two fields of one length, which may overlap; 7 where one isn't wholly in storage.
 ghost use Rattle.std.specs.Prelude.{◌≡◌, ◌⊎◌, ◌+◌, ◌-◌, ◌*◌, ◌/◌, ◌%◌, ◌<◌, ◌≤◌, length, set};
 ghost use Rattle.manual.specs.Programs.{and_then};
 ghost use Rattle.manual.specs.Formats.{reach};
@@ -57,6 +57,7 @@ fn copy_left(s: &mut [u8], p: Operands)
     }
 }
 
+/// MVC: operand 1 becomes operand 2, byte by byte from the right, so that an overlap repeats bytes.
 #[tactic(auto, unfolding(manual::specs::Logical::mvc), using(parts::proofs::Ways::pairs))]
 pub fn mvc(m: &mut Machine, s: &mut [u8], f: Fields) -> Result<(), Stop>
     ensures { Does (mvc f) m.old s.old result m.new s.new }
@@ -83,6 +84,7 @@ fn field_order(s: &[u8], p: Operands) -> u8
     }
 }
 
+/// CLC: operand 1 against operand 2 as unsigned numbers.
 #[tactic(auto, unfolding(manual::specs::Logical::clc), using(parts::proofs::Ways::pairs))]
 pub fn clc(m: &mut Machine, s: &[u8], f: Fields) -> Result<(), Stop>
     ensures { Does (clc f) m.old s.now result m.new s.now }
@@ -206,6 +208,7 @@ fn left<const LESS: bool>(s: &mut [u8], p: Operands) -> Columns
     ones::<LESS>(s, p, 4 * k, c)
 }
 
+/// ALC: operand 2 is added to operand 1, and the carry out of the leftmost byte is binary overflow.
 #[tactic(auto, unfolding(manual::specs::Logical::alc), using(parts::proofs::Ways::pairs))]
 pub fn alc(m: &mut Machine, s: &mut [u8], f: Fields) -> Result<(), Stop>
     ensures { Does (alc f) m.old s.old result m.new s.new }
@@ -217,6 +220,7 @@ pub fn alc(m: &mut Machine, s: &mut [u8], f: Fields) -> Result<(), Stop>
     Ok(())
 }
 
+/// SLC: operand 2 is taken off operand 1; binary overflow stays. ALC and SLC differ in their status' function: one leaf for both would ask twice.
 #[tactic(auto, unfolding(manual::specs::Logical::slc), using(parts::proofs::Ways::pairs))]
 pub fn slc(m: &mut Machine, s: &mut [u8], f: Fields) -> Result<(), Stop>
     ensures { Does (slc f) m.old s.old result m.new s.new }

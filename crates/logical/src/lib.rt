@@ -1,4 +1,4 @@
-// MVC, CLC, ALC, SLC, and TBN, TBF, SBN, SBF, MVI, CLI, SLI: each does what its rule says.
+//! MVC, CLC, ALC, SLC, and TBN, TBF, SBN, SBF, MVI, CLI, SLI: each does what its rule says.
 #![tactic(auto)]
 
 mod bytes;

@@ -1,20 +1,24 @@
-// The types of the machine, its instructions and its answers. What each means is in specs/: document 01 as definitions.
+//! The types of the machine, its instructions and its answers. What each means is in specs/: the paper's rules as definitions.
 
 #![tactic(auto)]
 
+/// The machine: what a host keeps from call to call beside the storage.
 #[repr(C)]
 #[derive(Clone, Copy, Debug, PartialEq, Eq, Default)]
 pub struct Machine {
+    /// The address of the next instruction.
     pub iar: u16,
+    /// The address recall register.
     pub arr: u16,
     pub xr1: u16,
     pub xr2: u16,
-    // WR4 to WR7
+    /// WR4 to WR7.
     pub wr: [u16; 4],
+    /// Six bits, below 64: 32 binary overflow, 16 test false, 8 decimal overflow, 4 high, 2 low, 1 equal.
     pub status: u8,
 }
 
-// The registers that instructions read and write by name; Work(i) is WR(4 + i).
+/// The registers that instructions read and write by name; `Work(i)` is WR(4 + i).
 #[derive(Clone, Copy, Debug, PartialEq, Eq)]
 pub enum Register {
     Arr,
@@ -25,7 +29,7 @@ pub enum Register {
 
 // ---- answers of step and run; specs/Numbers has each one's number
 
-// Why a call of step or run is refused at entry.
+/// Why a call of step or run is refused at entry, with its number: the storage's size, the budget, the status.
 #[derive(Clone, Copy, Debug, PartialEq, Eq)]
 pub enum Refusal {
     SizeRefused = 1,
@@ -33,18 +37,24 @@ pub enum Refusal {
     StatusRefused = 3,
 }
 
-// Why an instruction stops.
+/// Why an instruction stops.
 #[derive(Clone, Copy, Debug, PartialEq, Eq)]
 pub enum Stop {
+    /// 4: a byte of the instruction lies past the storage.
     CutShort,
+    /// 5: the opcode names nothing.
     OpcodeUnknown,
+    /// 6: the operation doesn't allow this Q byte.
     QRefused,
+    /// 7: an operand isn't wholly in storage.
     OperandOutside,
+    /// 8: a digit of a zoned operand is above 9.
     DigitRefused,
-    // the Q and R bytes
+    /// 9: a supervisor call, with its Q and R bytes.
     Supervisor(u8, u8),
 }
 
+/// What a step or a run answers; `Executed` is 0. Three cases, which no `Result` has: a refusal is the caller's fault, a stop the program's.
 #[derive(Clone, Copy, Debug, PartialEq, Eq)]
 pub enum Answer {
     Executed,
@@ -52,19 +62,21 @@ pub enum Answer {
     Stopped(Stop),
 }
 
+/// What a step leaves.
 #[derive(Clone, Copy, Debug, PartialEq, Eq)]
 pub struct Stepped {
     pub machine: Machine,
     pub answer: Answer,
 }
 
-// How a run ended, and its count of executed steps.
+/// How a run ended, and its count of executed steps.
 #[derive(Clone, Copy, Debug, PartialEq, Eq)]
 pub struct Ended {
     pub answer: Answer,
     pub steps: u32,
 }
 
+/// What a run leaves.
 #[derive(Clone, Copy, Debug, PartialEq, Eq)]
 pub struct Ran {
     pub machine: Machine,
@@ -73,6 +85,7 @@ pub struct Ran {
 
 // ---- instructions
 
+/// The 25 operations, by the names of the manual.
 #[derive(Clone, Copy, Debug, PartialEq, Eq)]
 pub enum Operation {
     Zaz,
@@ -102,7 +115,7 @@ pub enum Operation {
     Svc,
 }
 
-// What an address is reckoned from.
+/// What an address is reckoned from.
 #[derive(Clone, Copy, Debug, PartialEq, Eq)]
 pub enum Base {
     Absent,
@@ -114,7 +127,7 @@ pub enum Base {
     Backward,
 }
 
-// Which opcodes a left digit has.
+/// Which opcodes a left digit has.
 #[derive(Clone, Copy, Debug, PartialEq, Eq)]
 pub enum Group {
     TwoAddress,
@@ -123,7 +136,7 @@ pub enum Group {
     Jump,
 }
 
-// What the left digit of an opcode gives.
+/// What the left digit of an opcode gives: the length in bytes, and the base of each operand.
 #[derive(Clone, Copy, Debug, PartialEq, Eq)]
 pub struct Form {
     pub length: u8,
@@ -132,14 +145,14 @@ pub struct Form {
     pub group: Group,
 }
 
-// An operand as it stands in the instruction: its base, and the address or displacement.
+/// An operand as it stands in the instruction: its base, and the address or displacement.
 #[derive(Clone, Copy, Debug, PartialEq, Eq)]
 pub struct Operand {
     pub base: Base,
     pub number: u16,
 }
 
-// An instruction as its bytes say it; next is the address after it.
+/// An instruction as its bytes say it; `next` is the address after it.
 #[derive(Clone, Copy, Debug, PartialEq, Eq)]
 pub struct Instruction {
     pub operation: Operation,
@@ -150,7 +163,7 @@ pub struct Instruction {
     pub next: u16,
 }
 
-// An instruction with the addresses of its operands: what a rule and a leaf see.
+/// An instruction with the addresses of its operands: what a rule and a leaf see.
 #[derive(Clone, Copy, Debug, PartialEq, Eq)]
 pub struct Fields {
     pub q: u8,
@@ -160,7 +173,8 @@ pub struct Fields {
     pub next: u16,
 }
 
-// What ALC and SLC carry from column to column: the carry or borrow, and whether every result byte so far is zero.
+/// What ALC and SLC carry from column to column: the carry or borrow, 0 or 1, as the number that the next column adds or takes off, and whether
+/// every result byte so far is zero.
 #[derive(Clone, Copy, Debug, PartialEq, Eq)]
 pub struct Columns {
     pub over: usize,
@@ -169,7 +183,7 @@ pub struct Columns {
 
 // ---- answers of the deck reader and writer
 
-// Why a deck is not read.
+/// Why a deck is not read, with its number.
 #[derive(Clone, Copy, Debug, PartialEq, Eq)]
 pub enum DeckFault {
     SizeNotTheDecks = 1,
@@ -182,13 +196,14 @@ pub enum DeckFault {
     BytesAfterEnd = 16,
 }
 
+/// What the reader leaves: a refusal leaves a zeroed machine.
 #[derive(Clone, Copy, Debug, PartialEq, Eq)]
 pub struct DeckOut {
     pub machine: Machine,
     pub answer: Result<(), DeckFault>,
 }
 
-// Why a deck is not written.
+/// Why a deck is not written, with its number.
 #[derive(Clone, Copy, Debug, PartialEq, Eq)]
 pub enum WriteFault {
     SizeNotAllowed = 1,

@@ -1,4 +1,4 @@
-// What the leaves share: the range tests, the registers by name, and the status.
+//! What the leaves share: the range tests, the registers by name, and the status.
 #![tactic(auto)]
 
 ghost use Rattle.std.specs.Prelude.{◌≡◌, ◌<◌};
@@ -12,7 +12,7 @@ use manual::{Columns, Machine, Stop};
 
 // ---- where an operand may lie
 
-// n bytes whose rightmost is at a.
+/// `n` bytes whose rightmost is at `a`; 7 where one lies below 0000 or past the storage of `size` bytes.
 #[tactic(auto, unfolding(manual::specs::Formats::reach))]
 pub fn reach(size: usize, n: usize, a: usize) -> Result<(), Stop>
     ensures { result ≡ reach size n a }
@@ -24,7 +24,7 @@ pub fn reach(size: usize, n: usize, a: usize) -> Result<(), Stop>
     }
 }
 
-// n bytes whose leftmost is at a.
+/// `n` bytes whose leftmost is at `a`; 7 where one lies past the storage of `size` bytes.
 #[tactic(auto, unfolding(manual::specs::Formats::reach_right))]
 pub fn reach_right(size: usize, n: usize, a: usize) -> Result<(), Stop>
     ensures { result ≡ reach_right size n a }
@@ -38,7 +38,7 @@ pub fn reach_right(size: usize, n: usize, a: usize) -> Result<(), Stop>
 
 // ---- the storage
 
-// 256 to 65,536 bytes, a multiple of 256.
+/// 256 to 65,536 bytes, a multiple of 256.
 #[tactic(auto, unfolding(manual::specs::TheMachine::size_allowed))]
 pub fn size_allowed(n: usize) -> bool
     ensures { result ≡ size_allowed n }
@@ -48,6 +48,7 @@ pub fn size_allowed(n: usize) -> bool
 
 // ---- the status
 
+/// The status with its bits high, low and equal as in `order`.
 #[tactic(auto, unfolding(manual::specs::TheMachine::set_order))]
 pub fn set_order(order: u8, status: u8) -> u8
     requires { order < 8 }
@@ -56,7 +57,7 @@ pub fn set_order(order: u8, status: u8) -> u8
     status / 8 * 8 + order
 }
 
-// Equal, low or high: x against y, unsigned.
+/// Equal (1), low (2) or high (4): `x` against `y`, unsigned. By two tests, since a `cmp` matched on costs the loop a branch more.
 #[tactic(auto, unfolding(manual::specs::TheMachine::order_of))]
 pub fn order_of(x: u8, y: u8) -> u8
     ensures order { result ≡ order_of x y }
@@ -71,7 +72,7 @@ pub fn order_of(x: u8, y: u8) -> u8
     }
 }
 
-// A sum's: the carry is binary overflow.
+/// The status after a sum: the carry is binary overflow.
 #[tactic(auto, unfolding(manual::specs::Logical::sum_status, manual::specs::TheMachine::set_order, manual::specs::TheMachine::turn_on, manual::specs::TheMachine::turn_off))]
 pub fn sum_status(status: u8, c: Columns) -> u8
     ensures { result ≡ sum_status status c }
@@ -85,7 +86,7 @@ pub fn sum_status(status: u8, c: Columns) -> u8
     }
 }
 
-// A difference's: binary overflow stays.
+/// The status after a difference: binary overflow stays.
 #[tactic(auto, unfolding(manual::specs::Logical::difference_status))]
 pub fn difference_status(status: u8, c: Columns) -> u8
     ensures { result ≡ difference_status status c }
@@ -100,6 +101,7 @@ pub fn difference_status(status: u8, c: Columns) -> u8
     set_order(order, status)
 }
 
+/// The status with test false on.
 #[tactic(auto, unfolding(manual::specs::TheMachine::turn_on))]
 pub fn with_test_false(status: u8) -> u8
     ensures { result ≡ turn_on test_false status }
@@ -113,6 +115,7 @@ pub fn with_test_false(status: u8) -> u8
 
 // ---- the registers by their Q byte
 
+/// The register of an allowed Q byte other than 04 (the status). Each work register by a literal index: one at run time would keep the machine in memory.
 #[tactic(auto, unfolding(manual::specs::Registers::register_named))]
 pub fn register_of(m: &Machine, q: u8) -> u16
     ensures { result ≡ register_of m.now (register_named q) }
@@ -130,6 +133,7 @@ pub fn register_of(m: &Machine, q: u8) -> u16
     }
 }
 
+/// Sets the same register.
 #[tactic(auto, unfolding(manual::specs::Registers::register_named))]
 pub fn set_register(m: &mut Machine, q: u8, v: u16)
     ensures { m.new ≡ with_register m.old (register_named q) v }

@@ -1,4 +1,4 @@
-// One step and the run, PUBLISHED: step and run have no `requires`, and one statement each that determines the answer, the machine and every byte.
+//! One step and the run, PUBLISHED: step and run have no `requires`, and one statement each that determines the answer, the machine and every byte.
 #![tactic(auto)]
 
 ghost use Rattle.std.specs.Prelude.{◌≡◌};
@@ -13,6 +13,7 @@ use manual::{Answer, Ended, Fields, Machine, Operation, Ran, Refusal, Stepped, S
 
 // ---- the inner step, without the entry tests
 
+// A match and no table of functions: the leaves are inlined into the loop.
 #[inline(always)]
 #[tactic(auto, unfolding(manual::specs::Step::exec))]
 fn execute(m: &mut Machine, s: &mut [u8], op: Operation, f: Fields) -> Result<(), Stop>
@@ -117,7 +118,8 @@ fn admitted(size: usize, budget: u32, status: u8) -> Result<(), Refusal>
     Ok(())
 }
 
-/// A step: a run of one turn.
+/// Executes the instruction at IAR. Refused with 1 where the storage isn't 256 to 65,536 bytes and a multiple of 256, with 3 where the status is 64 or
+/// more; a refusal and a stop leave machine and storage. A step is a run of one turn.
 pub fn step(m: Machine, s: &mut [u8]) -> Stepped
     ensures { SteppedAs m s.old result s.new }
 {
@@ -128,6 +130,7 @@ pub fn step(m: Machine, s: &mut [u8]) -> Stepped
     }
 }
 
+/// Executes at most `budget` instructions, until one stops, and counts them. Refused as a step is, and with 2 where the budget is above 16,777,216.
 #[tactic(auto, unfolding(manual::specs::Run::run_of, crate::specs::Entry::admitted))]
 pub fn run(m: Machine, s: &mut [u8], budget: u32) -> Ran
     ensures { RanAs m s.old budget result s.new }
