@@ -1,7 +1,7 @@
 //! ST, L, A, S, LA, BC, JC and SVC: each does what its rule says. The address of two bytes is that of the rightmost; 7 where they aren't in storage.
 #![tactic(auto)]
 
-ghost use Rattle.std.specs.Prelude.{◌≡◌, ◌*◌, ◌+◌, ◌-◌, ◌<◌, ◌≤◌, length, get_or};
+ghost use Rattle.std.specs.Prelude.{◌≡◌, cond, ◌*◌, ◌+◌, ◌-◌, ◌<◌, ◌≤◌, length, get_or};
 ghost use Rattle.manual.specs.Registers.{store, load, loaded_status, add, subtract};
 ghost use Rattle.manual.specs.Branches.{taken, after_test, branch, jump, load_address, call};
 ghost use Rattle.manual.specs.TheMachine.{turn_off, decimal_overflow, test_false};
@@ -30,9 +30,9 @@ pub fn store(m: &mut Machine, s: &mut [u8], f: Fields) -> Result<(), Stop>
         s[a] = m.status;
         s[a - 1] = 0;
     } else {
-        let v = parts::register_of(m, f.q);
-        s[a] = (v % 256) as u8;
-        s[a - 1] = (v / 256) as u8;
+        let [left, right] = parts::register_of(m, f.q).to_be_bytes();
+        s[a] = right;
+        s[a - 1] = left;
     }
     m.iar = f.next;
     Ok(())
@@ -69,38 +69,26 @@ pub fn load(m: &mut Machine, s: &[u8], f: Fields) -> Result<(), Stop>
     Ok(())
 }
 
-/// A: the bytes are added to the register in 16 bits, the carry told apart; the status as after ALC.
-#[tactic(auto, unfolding(manual::specs::Registers::add, manual::specs::Programs::unless, manual::specs::Programs::val, manual::specs::Programs::fin, manual::specs::Step::did, manual::specs::Formats::reach))]
-pub fn add(m: &mut Machine, s: &[u8], f: Fields) -> Result<(), Stop>
-    ensures { Does (add f) m.old s.now result m.new s.now }
+/// A: the bytes are added to the register in 16 bits, the carry told apart; the status as after ALC. Where `LESS` S: they are taken off, the borrow told
+/// apart; the status as after SLC.
+#[tactic(auto, unfolding(manual::specs::Registers::add, manual::specs::Registers::subtract, manual::specs::Programs::unless, manual::specs::Programs::val, manual::specs::Programs::fin, manual::specs::Step::did, manual::specs::Formats::reach))]
+pub fn combine<const LESS: bool>(m: &mut Machine, s: &[u8], f: Fields) -> Result<(), Stop>
+    ensures { Does (cond LESS subtract add f) m.old s.now result m.new s.now }
 {
     let a = usize::from(f.a1);
     parts::reach(s.len(), 2, a)?;
-    let (sum, carry) = parts::register_of(m, f.q).overflowing_add(word(s, a));
-    let columns = Columns {
-        over: usize::from(carry),
-        clear: sum == 0,
+    let register = parts::register_of(m, f.q);
+    let (result, over) = if LESS {
+        register.overflowing_sub(word(s, a))
+    } else {
+        register.overflowing_add(word(s, a))
     };
-    parts::set_register(m, f.q, sum);
-    m.status = parts::sum_status(m.status, columns);
-    m.iar = f.next;
-    Ok(())
-}
-
-/// S: the bytes are taken off the register in 16 bits, the borrow told apart; the status as after SLC.
-#[tactic(auto, unfolding(manual::specs::Registers::subtract, manual::specs::Programs::unless, manual::specs::Programs::val, manual::specs::Programs::fin, manual::specs::Step::did, manual::specs::Formats::reach))]
-pub fn subtract(m: &mut Machine, s: &[u8], f: Fields) -> Result<(), Stop>
-    ensures { Does (subtract f) m.old s.now result m.new s.now }
-{
-    let a = usize::from(f.a1);
-    parts::reach(s.len(), 2, a)?;
-    let (left, borrow) = parts::register_of(m, f.q).overflowing_sub(word(s, a));
     let columns = Columns {
-        over: usize::from(borrow),
-        clear: left == 0,
+        over: usize::from(over),
+        clear: result == 0,
     };
-    parts::set_register(m, f.q, left);
-    m.status = parts::difference_status(m.status, columns);
+    parts::set_register(m, f.q, result);
+    m.status = parts::columns_status::<LESS>(m.status, columns);
     m.iar = f.next;
     Ok(())
 }

@@ -1,8 +1,7 @@
 //! TBN, TBF, SBN, SBF, MVI, CLI, SLI: one byte, with Q as a mask or as the other byte; 7 where it isn't in storage.
 
-ghost use Rattle.std.specs.Prelude.{◌≡◌};
-ghost use Rattle.manual.specs.Immediate.{mvi, cli, sli};
-ghost use Rattle.logical.specs.Bits.{test_bits, set_bits};
+ghost use Rattle.std.specs.Prelude.{◌≡◌, cond};
+ghost use Rattle.manual.specs.Immediate.{tbn, tbf, sbn, sbf, mvi, cli, sli};
 ghost use Rattle.parts.specs.Leaf.{Does};
 
 use manual::{Columns, Fields, Machine, Stop};
@@ -10,7 +9,7 @@ use manual::{Columns, Fields, Machine, Stop};
 /// TBN where `ON`, TBF where not: test false goes on unless all bits of the byte that Q masks are on, or off.
 #[tactic(auto, unfolding(manual::specs::Immediate::tbn, manual::specs::Immediate::tbf, manual::specs::Programs::unless, manual::specs::Programs::val, manual::specs::Programs::fin, manual::specs::Step::did, manual::specs::Formats::reach))]
 pub fn test_bits<const ON: bool>(m: &mut Machine, s: &[u8], f: Fields) -> Result<(), Stop>
-    ensures { Does (test_bits ON f) m.old s.now result m.new s.now }
+    ensures { Does (cond ON tbn tbf f) m.old s.now result m.new s.now }
 {
     let a = usize::from(f.a1);
     parts::reach(s.len(), 1, a)?;
@@ -25,7 +24,7 @@ pub fn test_bits<const ON: bool>(m: &mut Machine, s: &[u8], f: Fields) -> Result
 /// SBN where `ON`, SBF where not: the bits of the byte that Q masks go on, or off.
 #[tactic(auto, unfolding(manual::specs::Immediate::sbn, manual::specs::Immediate::sbf, manual::specs::Programs::unless, manual::specs::Programs::val, manual::specs::Programs::fin, manual::specs::Step::did, manual::specs::Formats::reach))]
 pub fn set_bits<const ON: bool>(m: &mut Machine, s: &mut [u8], f: Fields) -> Result<(), Stop>
-    ensures { Does (set_bits ON f) m.old s.old result m.new s.new }
+    ensures { Does (cond ON sbn sbf f) m.old s.old result m.new s.new }
 {
     let a = usize::from(f.a1);
     parts::reach(s.len(), 1, a)?;

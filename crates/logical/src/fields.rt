@@ -1,5 +1,5 @@
 //! MVC, CLC, ALC, SLC: two fields of one length, which may overlap; 7 where one isn't wholly in storage.
-ghost use Rattle.std.specs.Prelude.{◌≡◌, ◌⊎◌, ◌+◌, ◌-◌, ◌*◌, ◌/◌, ◌%◌, ◌<◌, ◌≤◌, length, set};
+ghost use Rattle.std.specs.Prelude.{◌≡◌, cond, ◌⊎◌, ◌+◌, ◌-◌, ◌*◌, ◌/◌, ◌%◌, ◌<◌, ◌≤◌, length, set};
 ghost use Rattle.manual.specs.Programs.{and_then};
 ghost use Rattle.manual.specs.Formats.{reach};
 ghost use Rattle.manual.specs.TheMachine.{order_of};
@@ -11,7 +11,7 @@ ghost use Rattle.logical.specs.Columns.{column_of, taken, over_of};
 ghost use Rattle.logical.specs.Pairs.{operands_of, Within};
 
 use manual::{Columns, Fields, Machine, Stop};
-use parts::{difference_status, reach, set_order, sum_status};
+use parts::{columns_status, reach, set_order};
 use std::cmp::Ordering;
 
 // Two operands of one length; each address is that of the rightmost byte.
@@ -208,26 +208,15 @@ fn left<const LESS: bool>(s: &mut [u8], p: Operands) -> Columns
     ones::<LESS>(s, p, 4 * k, c)
 }
 
-/// ALC: operand 2 is added to operand 1, and the carry out of the leftmost byte is binary overflow.
-#[tactic(auto, unfolding(manual::specs::Logical::alc), using(parts::proofs::Ways::pairs))]
-pub fn alc(m: &mut Machine, s: &mut [u8], f: Fields) -> Result<(), Stop>
-    ensures { Does (alc f) m.old s.old result m.new s.new }
+/// ALC: operand 2 is added to operand 1, and the carry out of the leftmost byte is binary overflow. Where `LESS` SLC: it is taken off, and binary
+/// overflow stays.
+#[tactic(auto, unfolding(manual::specs::Logical::alc, manual::specs::Logical::slc), using(parts::proofs::Ways::pairs))]
+pub fn combine<const LESS: bool>(m: &mut Machine, s: &mut [u8], f: Fields) -> Result<(), Stop>
+    ensures { Does (cond LESS slc alc f) m.old s.old result m.new s.new }
 {
     let p = Operands::of(f);
     p.reach(s.len())?;
-    m.status = sum_status(m.status, left::<false>(s, p));
-    m.iar = f.next;
-    Ok(())
-}
-
-/// SLC: operand 2 is taken off operand 1; binary overflow stays. ALC and SLC differ in their status' function: one leaf for both would ask twice.
-#[tactic(auto, unfolding(manual::specs::Logical::slc), using(parts::proofs::Ways::pairs))]
-pub fn slc(m: &mut Machine, s: &mut [u8], f: Fields) -> Result<(), Stop>
-    ensures { Does (slc f) m.old s.old result m.new s.new }
-{
-    let p = Operands::of(f);
-    p.reach(s.len())?;
-    m.status = difference_status(m.status, left::<true>(s, p));
+    m.status = columns_status::<LESS>(m.status, left::<LESS>(s, p));
     m.iar = f.next;
     Ok(())
 }

@@ -5,4 +5,4 @@ mod bytes;
 mod fields;
 
 pub use bytes::{cli, mvi, set_bits, sli, test_bits};
-pub use fields::{alc, clc, mvc, slc};
+pub use fields::{clc, combine, mvc};

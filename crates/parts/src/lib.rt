@@ -1,7 +1,7 @@
 //! What the leaves share: the range tests, the registers by name, and the status.
 #![tactic(auto)]
 
-ghost use Rattle.std.specs.Prelude.{◌≡◌, ◌<◌};
+ghost use Rattle.std.specs.Prelude.{◌≡◌, ◌<◌, cond};
 ghost use Rattle.manual.specs.TheMachine.{size_allowed, set_order, order_of, turn_on, test_false};
 ghost use Rattle.manual.specs.Formats.{reach, reach_right};
 ghost use Rattle.manual.specs.Logical.{sum_status, difference_status};
@@ -99,6 +99,17 @@ pub fn difference_status(status: u8, c: Columns) -> u8
         2
     };
     set_order(order, status)
+}
+
+/// The status after a sum, or where `LESS` after a difference.
+pub fn columns_status<const LESS: bool>(status: u8, c: Columns) -> u8
+    ensures { result ≡ cond LESS difference_status sum_status status c }
+{
+    if LESS {
+        difference_status(status, c)
+    } else {
+        sum_status(status, c)
+    }
 }
 
 /// The status with test false on.
