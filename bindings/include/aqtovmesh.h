@@ -7,8 +7,8 @@
  *
  * What C demands of the caller, and no call can check:
  *   - every pointer is non-null, also where the length beside it is 0, and valid for that length;
- *   - a record is aligned to 2 bytes, holds values (zeros will do) and is writable, also for aqtovmesh_write and aqtovmesh_deck_length, which store
- *     what it held;
+ *   - a record is aligned to 2 bytes, holds values (zeros will do) and is writable, also for aqtovmesh_write and aqtovmesh_deck_length, which leave it
+ *     as it is;
  *   - the record and the buffers of one call do not overlap, and nothing else reads or writes them meanwhile.
  * There is no other state: calls on different records and buffers may run at once.
  *
