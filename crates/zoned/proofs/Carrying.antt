@@ -1,18 +1,22 @@
 -- Columns in two parts, those with digits to add and those left of them, where only the carry runs on. What carries it: ten to the k takes the first k columns off.
 use mathlib.Core.Path.{◌≡◌, refl, sym, ap, ◌∙◌}
 use mathlib.Core.Bool.{true, Bool, false}
-use mathlib.Core.List.{List}
-use mathlib.Core.Logic.{inl, inr}
+use mathlib.Core.List.{List, ◌++◌}
+use mathlib.Core.Logic.{inr}
 use Prim.Native.Nat.{ℕ, zero, suc, ◌+◌, ◌-◌, ◌*◌, ◌/◌, ◌%◌, ◌^◌, ◌≤◌, ◌<◌}
 use native.Mathlib.Decide.{dec_lt}
-use native.Mathlib.Nat.{pow-suc, pow-succ', div-div-eq-div-mul, div-eq_of_lt, div-one, mod-lt, mod-mod, zero-div, zero-mod, one-mul, mul-add, mul_assoc, mod-add-div, add-mul-div_left, add-mul-mod_self_left}
+use native.Mathlib.Nat.{pow-suc, pow-succ', div-div-eq-div-mul, div-eq_of_lt, div-one, mod-lt, mod-mod, mod-eq_of_lt, zero-div, zero-mod, one-mul, mul-add, mul_assoc, mod-add-div, add-mul-div_left, add-mul-mod_self_left}
 use native.Mathlib.Omega.{arith}
-use lib.ListN.{length, get_or}
-use Rattle.manual.specs.Values.{bytes_of, digit, size}
-use Rattle.manual.proofs.Digits.{ten_pos, digit_at, digit-cut, digit_small}
-use Rattle.manual.proofs.FieldBytes.{written_inside, written_outside, written_length, written_once, Outside}
-use Rattle.manual.proofs.ZonedRead.{zoned_byte, zoned_bytes, size_read, digits_read, digit_of_size}
-use Rattle.zoned.specs.Working.{part, added_up, still, sum_of, alone, Field, Operands}
+use lib.ListN.{length, get_or, take, drop}
+use lib.Seq.{get_or-append_right}
+use borrow.Rule.Slice.PartMut.{put_mid}
+use Rattle.std.proofs.lemmas.List.{length-take-le, length-drop, length-append, get_or-take, get_or-drop, get_or_append_left}
+use Rattle.manual.specs.Values.{digit, size}
+use Rattle.manual.proofs.Digits.{ten_pos, digit_at, digit-cut}
+use Rattle.manual.proofs.FieldBytes.{written_inside, written_outside, written_length}
+use Rattle.manual.proofs.ZonedRead.{zoned_byte, zoned_bytes, size_read, digit_of_size}
+use Rattle.zoned.specs.Working.{from_right, holding, part, added_up, still, sum_of, alone, Field, Operands}
+use Rattle.zoned.proofs.Fields.{part_of, part_length, part_byte, spliced_length, spliced_in, spliced_left, holds, held, held_length, all_low, digit_low, size_below}
 use Rattle.zoned.proofs.Summing.{part_next, part_none, byte_of}
 
 -- ---- powers of ten
@@ -59,32 +63,23 @@ module _ (w : Bool) (n j x c T : ℕ) (le : j ≤ n) (e : c ≡ still w) (left :
       ap (λ (i : ℕ). digit_at T i) (sym k) ∙ digit_more T j (p - j) ∙ sym (digit-cut (T / 10 ^ j) (n - j) (p - j) d) ∙
       ap (λ (z : ℕ). digit_at z (p - j)) cuts ∙ digit-cut (x / 10 ^ j) (n - j) (p - j) d ∙ sym (digit_more x j (p - j)) ∙ ap (λ (i : ℕ). digit_at x i) k
 
-plain_byte : (m j : ℕ) → 0xF0 + digit_at m j ≡ zoned_byte false m j
+pub plain_byte : (m j : ℕ) → 0xF0 + digit_at m j ≡ zoned_byte false m j
 unfolding zoned_byte
 plain_byte m j = refl
 
 -- the bytes left of it are those of the whole sum
-pub still_field : (w : Bool) (s t : List ℕ) (n a j c T : ℕ) → Field s n a → j ≤ n → c ≡ still w
-    → T / 10 ^ j ≡ added_up false w c (n - j) (size (bytes_of s n a) / 10 ^ j) (0 / 10 ^ j) → t ≡ zoned_bytes s j a false T → t ≡ zoned_bytes s n a false T
-still_field w s t n a j c T o le e left is =
-    rw is (written_once s n a (zoned_byte false T) (zoned_bytes s j a false T) inn fits (written_length s j a (zoned_byte false T)) (λ p q. pick p q (dec_lt p j)) outside)
+pub still_field : (w : Bool) (f t : List ℕ) (j c T : ℕ) → Field f → j < length f → c ≡ still w
+    → T / 10 ^ j ≡ added_up false w c (length f - j) (size (from_right f) / 10 ^ j) (0 / 10 ^ j) → t ≡ zoned_bytes f j (length f - 1) false T → t ≡ holding f false T
+still_field w f t j c T o le e left is =
+    holds f t false T (omega arith) (rw is (written_length f j (length f - 1) (zoned_byte false T))) (λ p q. rw is (pick p q (dec_lt p j)))
   where
-    inn : a < length s
-    inn = o.inside
-
-    fits : n ≤ a + 1
-    fits = o.fits
-
-    pick : (p : ℕ) → p < n → Dec (p < j) → get_or (zoned_bytes s j a false T) (a - p) 0 ≡ zoned_byte false T p
-    pick p q (yes h) = written_inside s j a (zoned_byte false T) p inn (omega (arith, fits)) h
+    pick : (p : ℕ) → p < length f → Dec (p < j) → get_or (zoned_bytes f j (length f - 1) false T) (length f - 1 - p) 0 ≡ zoned_byte false T p
+    pick p q (yes h) = written_inside f j (length f - 1) (zoned_byte false T) p (omega arith) (omega arith) h
     pick p q (no h) =
-        written_outside s j a (zoned_byte false T) (a - p) (inr (omega (arith, fits))) ∙
-        byte_of (get_or s (a - p) 0) _ (o.zones p q) (digit_of_size s n a p o.digits q ∙ sym (still_digit w n j (size (bytes_of s n a)) c T le e left p (omega arith) q)) ∙
+        written_outside f j (length f - 1) (zoned_byte false T) (length f - 1 - p) (inr (omega arith)) ∙
+        byte_of (get_or f (length f - 1 - p) 0) _ (o.zones (length f - 1 - p) (omega arith))
+        (digit_of_size f (length f) (length f - 1) p o.digits q ∙ sym (still_digit w (length f) j (size (from_right f)) c T (omega arith) e left p (omega arith) q)) ∙
         plain_byte T p
-
-    outside : (i : ℕ) → Outside n a i → get_or (zoned_bytes s j a false T) i 0 ≡ get_or s i 0
-    outside i (inl h) = written_outside s j a (zoned_byte false T) i (inl h)
-    outside i (inr h) = written_outside s j a (zoned_byte false T) i (inr (omega arith))
 
 -- ---- columns in two parts
 
@@ -142,120 +137,152 @@ module _ (w : Bool) (k m x y c : ℕ) (small : y < 10 ^ k) where
   glued_left : (j : ℕ) → digit_at T1 j ≡ digit_at T (k + j)
   glued_left j = ap (λ (z : ℕ). digit_at z j) (sym above) ∙ sym (digit_more T k j)
 
--- the operands of the k columns
-pub fewer : (s d : List ℕ) (n k a : ℕ) → Operands s n a d → k ≤ n → Operands s k a d
-fewer s d n k a o le =
-    let fits : n ≤ a + 1 = o.field.fits in
+-- ---- what the last columns, and then those left of them, leave is what all leave
+
+field_part : (f : List ℕ) (l k : ℕ) → Field f → l + k ≤ length f → Field (part_of l k f)
+field_part f l k o in_f =
     record {
-      field =
-          record {
-            inside = o.field.inside;
-            fits = omega arith;
-            digits = digits_read s k a (λ j q. rw (digit_of_size s n a j o.field.digits (omega arith)) (digit_small (size (bytes_of s n a)) j));
-            zones = λ j q. o.field.zones j (omega arith);
-          };
-      most = omega (arith, o.most);
-      digits_two = digits_read d k 30 (λ j q. rw (digit_of_size d n 30 j o.digits_two (omega arith)) (digit_small (size (bytes_of d n 30)) j));
+      digits = all_low (part_of l k f) (λ i h. let p : i < k = omega (arith, part_length f l k in_f) in rw (part_byte f l k in_f i p) (digit_low f o.digits (l + i) (omega arith)));
+      zones = λ i h. let p : i < k = omega (arith, part_length f l k in_f) in rw (part_byte f l k in_f i p) (o.zones (l + i) (omega arith));
     }
 
--- what k columns and then the m left of them leave, is what all leave
-module _ (w : Bool) (s d : List ℕ) (n k a c : ℕ) (o : Operands s n a d) (le : k ≤ n) (small : size (bytes_of d n 30) < 10 ^ k) where
+module _ (f d : List ℕ) (o : Operands f d) where
+  -- as the calls have it: l bytes to the left of the k that have digits to add
+  abbrev l : ℕ
+  l = length f - length d
+
+  abbrev k : ℕ
+  k = length f - l
+
+  abbrev right : List ℕ
+  right = part_of l k f
+
   abbrev x : ℕ
-  x = size (bytes_of s n a)
+  x = size (from_right f)
 
   abbrev y : ℕ
-  y = size (bytes_of d n 30)
+  y = size (from_right d)
 
-  inn : a < length s
-  inn = o.field.inside
+  meet : l + k ≡ length f
+  meet = omega arith
 
-  fits : n ≤ a + 1
-  fits = o.field.fits
+  in_f : l + k ≤ length f
+  in_f = omega (arith, meet)
 
-  right_size : size (bytes_of s k a) ≡ x % 10 ^ k
-  right_size = size_read s k a x (λ j q. digit_of_size s n a j o.field.digits (omega arith))
+  k_is : k ≡ length d
+  k_is = omega (arith, o.fits.shorter)
 
-  right_two : size (bytes_of d k 30) ≡ y % 10 ^ k
-  right_two = size_read d k 30 y (λ j q. digit_of_size d n 30 j o.digits_two (omega arith))
+  right_length : length right ≡ k
+  right_length = part_length f l k in_f
 
-  right_sum : sum_of w c k s a d ≡ T2 w k (n - k) x y c small
-  right_sum = rw (right_size, right_two)
+  pub right_long : length d ≡ length right
+  right_long = omega (arith, right_length, k_is)
 
-  all_is : k + (n - k) ≡ n
-  all_is = omega arith
+  pub right_operands : Operands right d
+  right_operands =
+      record {
+        field = field_part f l k o.field in_f;
+        fits = record { some = o.fits.some; shorter = omega (arith, right_long); most = omega (arith, o.fits.most, right_length); digits = o.fits.digits };
+      }
 
-  module _ (t : List ℕ) (e : t ≡ zoned_bytes s k a false (sum_of w c k s a d)) where
-    -- left of them the bytes are as they were
-    beside : (j : ℕ) → j < n - k → get_or t (a - k - j) 0 ≡ get_or s (a - (k + j)) 0
-    beside j q =
-        let i : a - k - j ≡ a - (k + j) = omega arith in
-        rw (e, i) (written_outside s k a (zoned_byte false (sum_of w c k s a d)) (a - (k + j)) (inr (omega (arith, fits))))
+  y_small : y < 10 ^ length right
+  y_small =
+      let h = size_below d (length d) (length d - 1) o.fits.digits in
+      let e : 10 ^ length d ≡ 10 ^ length right = ap (λ (n : ℕ). 10 ^ n) right_long in
+      omega (arith, h, e)
 
-    left_digit : (j : ℕ) → j < n - k → digit (get_or t (a - k - j) 0) ≡ digit_at (x / 10 ^ k) j
-    left_digit j q = ap digit (beside j q) ∙ digit_of_size s n a (k + j) o.field.digits (omega arith) ∙ digit_more x k j
+  x_digit : (j : ℕ) → j < length f → digit (get_or f (length f - 1 - j) 0) ≡ digit_at x j
+  x_digit j q = digit_of_size f (length f) (length f - 1) j o.field.digits q
 
-    left_size : size (bytes_of t (n - k) (a - k)) ≡ x / 10 ^ k % 10 ^ (n - k)
-    left_size = size_read t (n - k) (a - k) (x / 10 ^ k) left_digit
+  right_digit : (j : ℕ) → j < length right → digit (get_or right (length right - 1 - j) 0) ≡ digit_at x j
+  right_digit j q =
+      let e : l + (length right - 1 - j) ≡ length f - 1 - j = omega (arith, right_length, meet) in
+      let h = part_byte f l k in_f (length right - 1 - j) (omega (arith, right_length)) in
+      ap digit (rw e at h) ∙ x_digit j (omega (arith, right_length))
 
-    pub left_field : k < n → Field t (n - k) (a - k)
-    left_field h =
+  right_size : size (from_right right) ≡ x % 10 ^ length right
+  right_size = size_read right (length right) (length right - 1) x right_digit
+
+  module _ (t : List ℕ) (same : length t ≡ length right) where
+    abbrev now : List ℕ
+    now = put_mid l k f t
+
+    abbrev left : List ℕ
+    left = take l now
+
+    same_k : length t ≡ k
+    same_k = same ∙ right_length
+
+    now_length : length now ≡ length f
+    now_length = spliced_length f l k in_f t same_k
+
+    pub left_length : length left ≡ l
+    left_length = length-take-le l now (omega (arith, now_length, meet))
+
+    left_byte : (i : ℕ) → i < l → get_or left i 0 ≡ get_or f i 0
+    left_byte i h = get_or-take l now i 0 h ∙ spliced_left f l k in_f t same_k i h
+
+    pub left_field : Field left
+    left_field =
         record {
-          inside = rw (e, written_length) (omega (arith, inn));
-          fits = omega (arith, fits);
-          digits = digits_read t (n - k) (a - k) (λ j q. rw (left_digit j q) (digit_small (x / 10 ^ k) j));
-          zones = λ j q. rw (beside j q) (o.field.zones (k + j) (omega arith));
+          digits = all_low left (λ i h. let p : i < l = omega (arith, left_length) in rw (left_byte i p) (digit_low f o.field.digits i (omega (arith, meet))));
+          zones = λ i h. let p : i < l = omega (arith, left_length) in rw (left_byte i p) (o.field.zones i (omega (arith, meet)));
         }
 
-    module _ (over : ℕ) (f : over ≡ sum_of w c k s a d / 10 ^ k) where
-      left_sum : alone w over (n - k) t (a - k) ≡ T1 w k (n - k) x y c small
-      left_sum = rw (left_size, f, right_sum)
+    left_digit : (j : ℕ) → j < length left → digit (get_or left (length left - 1 - j) 0) ≡ digit_at (x / 10 ^ length right) j
+    left_digit j q =
+        let e : length left - 1 - j ≡ length f - 1 - (length right + j) = omega (arith, left_length, right_length, meet) in
+        let h = left_byte (length left - 1 - j) (omega (arith, left_length)) in
+        ap digit (h ∙ ap (λ (i : ℕ). get_or f i 0) e) ∙ x_digit (length right + j) (omega (arith, left_length, right_length, meet)) ∙ digit_more x (length right) j
 
-      pub both_over : (r : ℕ) → r ≡ alone w over (n - k) t (a - k) / 10 ^ (n - k) → r ≡ sum_of w c n s a d / 10 ^ n
+    left_size : size (from_right left) ≡ x / 10 ^ length right % 10 ^ length left
+    left_size = size_read left (length left) (length left - 1) (x / 10 ^ length right) left_digit
+
+    all_is : length right + length left ≡ length f
+    all_is = omega (arith, left_length, right_length, meet)
+
+    module _ (w : Bool) (c : ℕ) (e : t ≡ holding right false (sum_of w c right d)) (over : ℕ) (i : over ≡ sum_of w c right d / 10 ^ length right) where
+      right_sum : sum_of w c right d ≡ T2 w (length right) (length left) x y c y_small
+      right_sum = rw (right_size, mod-eq_of_lt y_small)
+
+      left_sum : alone w over left ≡ T1 w (length right) (length left) x y c y_small
+      left_sum = rw (left_size, i, right_sum)
+
+      pub both_over : (r : ℕ) → r ≡ alone w over left / 10 ^ length left → r ≡ sum_of w c f d / 10 ^ length f
       both_over r g =
-          g ∙ ap (λ (z : ℕ). z / 10 ^ (n - k)) left_sum ∙ glued_over w k (n - k) x y c small ∙ ap (λ (i : ℕ). added_up false w c i x y / 10 ^ i) all_is
+          g ∙ ap (λ (z : ℕ). z / 10 ^ length left) left_sum ∙ glued_over w (length right) (length left) x y c y_small ∙ ap (λ (n : ℕ). added_up false w c n x y / 10 ^ n) all_is
 
-      pub both_field : k < n → (u : List ℕ) → u ≡ zoned_bytes t (n - k) (a - k) false (alone w over (n - k) t (a - k)) → u ≡ zoned_bytes s n a false (sum_of w c n s a d)
-      both_field h u g =
-          written_once s n a (zoned_byte false (sum_of w c n s a d)) u inn fits same (λ j q. pick j q (dec_lt j k)) outside
+      pub both_field : (u : List ℕ) → u ≡ holding left false (alone w over left) → u ++ drop l now ≡ holding f false (sum_of w c f d)
+      both_field u g = holds f (u ++ drop l now) false (sum_of w c f d) (omega (arith, o.fits.some, o.fits.shorter)) whole (λ j q. pick j q (dec_lt j (length right)))
         where
-          S : ℕ
-          S = alone w over (n - k) t (a - k)
+          u_length : length u ≡ length left
+          u_length = held_length left u false (alone w over left) g
 
-          same_t : length t ≡ length s
-          same_t = rw e (written_length s k a (zoned_byte false (sum_of w c k s a d)))
+          whole : length (u ++ drop l now) ≡ length f
+          whole = omega (arith, length-append u (drop l now), length-drop l now, u_length, left_length, now_length, meet)
 
-          same : length u ≡ length s
-          same = rw g (written_length t (n - k) (a - k) (zoned_byte false (alone w over (n - k) t (a - k)))) ∙ same_t
-
-          digits_right : (j : ℕ) → j < k → zoned_byte false (sum_of w c k s a d) j ≡ zoned_byte false (sum_of w c n s a d) j
-          digits_right j q =
-              sym (plain_byte (sum_of w c k s a d) j) ∙
-              ap (λ (z : ℕ). 0xF0 + z) (ap (λ (z : ℕ). digit_at z j) right_sum ∙ glued_right w k (n - k) x y c small j q ∙ ap (λ (i : ℕ). digit_at (added_up false w c i x y) j) all_is) ∙
-              plain_byte (sum_of w c n s a d) j
-
-          digits_left : (j i : ℕ) → k + j ≡ i → zoned_byte false (alone w over (n - k) t (a - k)) j ≡ zoned_byte false (sum_of w c n s a d) i
-          digits_left j i z =
-              sym (plain_byte (alone w over (n - k) t (a - k)) j) ∙
+          right_byte : (j : ℕ) → j < length right → zoned_byte false (sum_of w c right d) j ≡ zoned_byte false (sum_of w c f d) j
+          right_byte j q =
+              sym (plain_byte (sum_of w c right d) j) ∙
               ap (λ (z : ℕ). 0xF0 + z)
-              (ap (λ (z : ℕ). digit_at z j) left_sum ∙ glued_left w k (n - k) x y c small j ∙ ap (λ (i : ℕ). digit_at (added_up false w c i x y) (k + j)) all_is ∙
-              ap (λ (i : ℕ). digit_at (sum_of w c n s a d) i) z) ∙
-              plain_byte (sum_of w c n s a d) i
+              (ap (λ (z : ℕ). digit_at z j) right_sum ∙ glued_right w (length right) (length left) x y c y_small j q ∙ ap (λ (n : ℕ). digit_at (added_up false w c n x y) j) all_is) ∙
+              plain_byte (sum_of w c f d) j
 
-          pick : (j : ℕ) → j < n → Dec (j < k) → get_or u (a - j) 0 ≡ zoned_byte false (sum_of w c n s a d) j
+          left_byte_is : (j p : ℕ) → length right + j ≡ p → zoned_byte false (alone w over left) j ≡ zoned_byte false (sum_of w c f d) p
+          left_byte_is j p z =
+              sym (plain_byte (alone w over left) j) ∙
+              ap (λ (z : ℕ). 0xF0 + z)
+              (ap (λ (z : ℕ). digit_at z j) left_sum ∙ glued_left w (length right) (length left) x y c y_small j ∙
+              ap (λ (n : ℕ). digit_at (added_up false w c n x y) (length right + j)) all_is ∙ ap (λ (n : ℕ). digit_at (sum_of w c f d) n) z) ∙
+              plain_byte (sum_of w c f d) p
+
+          pick : (j : ℕ) → j < length f → Dec (j < length right) → get_or (u ++ drop l now) (length f - 1 - j) 0 ≡ zoned_byte false (sum_of w c f d) j
           pick j q (yes p) =
-              ap (λ (l : List ℕ). get_or l (a - j) 0) g ∙
-              written_outside t (n - k) (a - k) (zoned_byte false (alone w over (n - k) t (a - k))) (a - j) (inl (omega (arith, fits))) ∙
-              ap (λ (l : List ℕ). get_or l (a - j) 0) e ∙ written_inside s k a (zoned_byte false (sum_of w c k s a d)) j inn (omega (arith, fits)) p ∙ digits_right j p
+              let h : l + (length f - 1 - j - length u) ≡ l + (length right - 1 - j) = omega (arith, u_length, left_length, right_length, meet) in
+              get_or-append_right u (drop l now) (length f - 1 - j) 0 (omega (arith, u_length, left_length, right_length, meet)) ∙
+              get_or-drop l now (length f - 1 - j - length u) 0 ∙ ap (λ (n : ℕ). get_or now n 0) h ∙
+              spliced_in f l k in_f t same_k (length right - 1 - j) (omega (arith, right_length)) ∙ held right t false (sum_of w c right d) e j p ∙ right_byte j p
           pick j q (no p) =
-              let i : a - j ≡ a - k - (j - k) = omega (arith, fits) in
-              ap (λ (l : List ℕ). get_or l (a - j) 0) g ∙ ap (λ (b : ℕ). get_or (zoned_bytes t (n - k) (a - k) false (alone w over (n - k) t (a - k))) b 0) i ∙
-              written_inside t (n - k) (a - k) (zoned_byte false (alone w over (n - k) t (a - k))) (j - k) (omega (arith, same_t, inn)) (omega (arith, fits)) (omega arith) ∙
-              digits_left (j - k) j (omega arith)
-
-          outside : (i : ℕ) → Outside n a i → get_or u i 0 ≡ get_or s i 0
-          outside i (inl z) =
-              rw (g, written_outside t (n - k) (a - k) (zoned_byte false (alone w over (n - k) t (a - k))) i (inl (omega arith)), e)
-              (written_outside s k a (zoned_byte false (sum_of w c k s a d)) i (inl z))
-          outside i (inr z) =
-              rw (g, written_outside t (n - k) (a - k) (zoned_byte false (alone w over (n - k) t (a - k))) i (inr (omega (arith, fits))), e)
-              (written_outside s k a (zoned_byte false (sum_of w c k s a d)) i (inr (omega arith)))
+              let h : length f - 1 - j ≡ length left - 1 - (j - length right) = omega (arith, all_is) in
+              get_or_append_left u (drop l now) 0 (length f - 1 - j) (omega (arith, u_length, all_is)) ∙ ap (λ (n : ℕ). get_or u n 0) h ∙
+              held left u false (alone w over left) g (j - length right) (omega (arith, all_is)) ∙ left_byte_is (j - length right) j (omega arith)

@@ -1,34 +1,28 @@
 -- What the columns of two fields leave, finished, is their exact sum or difference, and what a copy of operand 2 leaves is its value. What carries it: the sum of the columns is that size, or ten to the n more.
-use mathlib.Core.Path.{◌≡◌, sym, ap, ◌∙◌}
+use mathlib.Core.Path.{◌≡◌, refl, sym, ap, ◌∙◌}
 use mathlib.Core.Bool.{Bool, true, false, cond, not, beq}
-use mathlib.Core.List.{List}
+use mathlib.Core.List.{List, ◌++◌}
 use Prim.Native.Nat.{ℕ, ◌+◌, ◌-◌, ◌/◌, ◌%◌, ◌^◌, ◌≤◌, ◌<◌}
-use native.Mathlib.Decide.{dec_le}
-use native.Mathlib.Nat.{zero-mod, add-mod_right, mod-eq_of_lt, div-eq_of_lt, div-eq_of_lt-le}
+use native.Mathlib.Decide.{dec_le, dec_lt}
+use native.Mathlib.Nat.{zero-mod, add-mod_right, mod-eq_of_lt, div-eq_of_lt, div-eq_of_lt-le, pow-le-pow_right}
 use native.Mathlib.Omega.{arith}
 use lib.Dec.{eqb, leb}
 use lib.IntN.{ℤ, ◌+ℤ◌, ◌-ℤ◌}
-use lib.ListN.{length, get_or, replicate}
+use lib.ListN.{length, get_or, take, drop, replicate, get_or-replicate, length-replicate}
 use borrow.Author.Tests.{le-leb, lt-leb, leb-true, leb-false, eq-eqb, ne_eqb}
-use Rattle.manual.specs.Values.{bytes_of, digit, zone, size, value, all_digits, cut, left_minus}
-use Rattle.manual.specs.Zoned.{l1, l2}
-use Rattle.manual.proofs.Digits.{ten_pos, digit_at, digit_small}
-use Rattle.manual.proofs.FieldBytes.{written, written_length, written_inside, written_outside, written_once}
-use Rattle.manual.proofs.ZonedRead.{zoned_byte, zoned_bytes, minus_read, zoned_size, size_read, digits_read, digit_of_size}
-use Rattle.zoned.proofs.Fields.{field_put}
-use Rattle.zoned.proofs.Summing.{size_below, copy_size, copy_good}
-use Rattle.zoned.specs.Working.{Ready, Field, Operands, sum_of, round_of, sign_put, finished, signed_sum, Left}
+use borrow.Rule.Slice.PartMut.{put_mid}
+use Rattle.std.proofs.lemmas.List.{length-take-le, length-drop, length-append, get_or_append_left}
+use Rattle.manual.specs.Values.{bytes_of, digit, size, minus, value, all_digits, cut, left_minus}
+use Rattle.manual.specs.Zoned.{l1, l2, zoned_status}
+use Rattle.manual.proofs.Digits.{ten_pos, digit_at}
+use Rattle.manual.proofs.ZonedRead.{zoned_bytes, zoned_size, digit_of_size}
+use Rattle.zoned.proofs.Fields.{part_of, spliced_length, spliced_in, spliced_left, field_length, field_bytes, put_back, size_below, zones_size, zones_field, held_length, holds, holding_alike, field_put}
+use Rattle.zoned.specs.Working.{Ready, from_right, Zones, holding, Field, Fits, Operands, sum_of, round_of, sign_put, finished, signed_sum, Left, LeftIn}
+use Rattle.zoned.proofs.Carrying.{plain_byte}
 use Rattle.zoned.proofs.Signs.{add_alike, add_unlike, add_other, op_signed, same_sign, other_sign}
 use Rattle.zoned.proofs.Settling.{settled}
 
 -- ---- two fields of digits
-
--- a field written twice is as it was written last
-written_again : (s : List ℕ) (n a : ℕ) (f h : ℕ → ℕ) → a < length s → n ≤ a + 1 → written (written s n a f) n a h ≡ written s n a h
-written_again s n a f h inn fits =
-    written_once s n a h (written (written s n a f) n a h) inn fits (written_length (written s n a f) n a h ∙ written_length s n a f)
-    (λ j q. written_inside (written s n a f) n a h j (rw (written_length s n a f) inn) fits q)
-    (λ i q. written_outside (written s n a f) n a h i q ∙ written_outside s n a f i q)
 
 -- a carry out of the columns of two
 carry_out : (T P : ℕ) → 0 < P → T < P + P → eqb (T / P) 1 ≡ leb P T
@@ -42,219 +36,244 @@ carry_out T P h q = pick (dec_le P T)
         let r : T < P = omega arith in
         rw (div-eq_of_lt r, lt-leb P T r)
 
--- whether the digits that stand in the field are zero
-pub zero_told : (s : List ℕ) (n a T : ℕ) (t : List ℕ) (z : Bool) → a < length s → n ≤ a + 1 → t ≡ zoned_bytes s n a false T
-    → z ≡ eqb (size (bytes_of t n a)) 0 → z ≡ eqb (T % 10 ^ n) 0
-zero_told s n a T t z inn fits e f = f ∙ ap (λ (k : ℕ). eqb k 0) (ap (λ (l : List ℕ). size (bytes_of l n a)) e ∙ zoned_size s n a false T inn fits)
-
-module _ (s d : List ℕ) (n a status : ℕ) (g : Bool) (o : Operands s n a d) (some : 0 < n) where
+module _ (f d : List ℕ) (status : ℕ) (g : Bool) (o : Operands f d) where
   abbrev P : ℕ
-  P = 10 ^ n
+  P = 10 ^ length f
 
   abbrev x : ℕ
-  x = size (bytes_of s n a)
+  x = size (from_right f)
 
   abbrev y : ℕ
-  y = size (bytes_of d n 30)
+  y = size (from_right d)
 
-  inn : a < length s
-  inn = o.field.inside
-
-  fits : n ≤ a + 1
-  fits = o.field.fits
+  some : 0 < length f
+  some = omega (arith, o.fits.some, o.fits.shorter)
 
   x_small : x < P
-  x_small = size_below s n a o.field.digits
+  x_small = size_below f (length f) (length f - 1) o.field.digits
 
   y_small : y < P
-  y_small = size_below d n 30 o.digits_two
+  y_small = omega (arith, size_below d (length d) (length d - 1) o.fits.digits, pow-le-pow_right {n = 10} (omega arith) {i = length d} {j = length f} o.fits.shorter)
 
   -- of one sign
   abbrev plus : ℕ
-  plus = sum_of false 0 n s a d
+  plus = sum_of false 0 f d
 
   plus_is : plus ≡ x + y
   plus_is = omega (arith, mod-eq_of_lt x_small, mod-eq_of_lt y_small)
 
-  pub sum_left : (over : ℕ) (z : Bool) (t t₁ : List ℕ) (r : ℕ) → t ≡ zoned_bytes s n a false plus → over ≡ plus / P → z ≡ eqb (size (bytes_of t n a)) 0
-      → r ≡ finished g (eqb over 1) z status → t₁ ≡ sign_put g z t a → Left s n a status (signed_sum g g s n a d) r t₁
-  sum_left over z t t₁ r e f q h k =
+  pub sum_left : (over : ℕ) (t u : List ℕ) (r : ℕ) → t ≡ holding f false plus → over ≡ plus / P
+      → r ≡ finished g (eqb over 1) (eqb (size (from_right t)) 0) status → u ≡ sign_put g (eqb (size (from_right t)) 0) t → LeftIn f status (signed_sum g g f d) r u
+  sum_left over t u r e i h k =
       let small : plus < P + P = omega (arith, plus_is, x_small, y_small) in
-      let flow : eqb over 1 ≡ leb P (x + y) = ap (λ (v : ℕ). eqb v 1) f ∙ carry_out plus P (ten_pos n) small ∙ ap (λ (v : ℕ). leb P v) plus_is in
-      rw (add_alike g x y)
-      (settled s n a status plus (x + y) g (eqb over 1) inn fits some (ap (λ (v : ℕ). v % P) plus_is) flow t z r t₁ e (zero_told s n a plus t z inn fits e q) h k)
+      let flow : eqb over 1 ≡ leb P (x + y) = ap (λ (v : ℕ). eqb v 1) i ∙ carry_out plus P (ten_pos (length f)) small ∙ ap (λ (v : ℕ). leb P v) plus_is in
+      rw (add_alike g x y) (settled f status plus (x + y) g (eqb over 1) some (ap (λ (v : ℕ). v % P) plus_is) flow t r u e h k)
 
   -- of two signs: ten to the n more than the difference
   abbrev ahead : ℕ
-  ahead = sum_of true 1 n s a d
+  ahead = sum_of true 1 f d
 
   ahead_is : ahead + y ≡ x + P
   ahead_is = omega (arith, mod-eq_of_lt x_small, mod-eq_of_lt y_small, y_small)
 
-  module _ (over : ℕ) (t : List ℕ) (e : t ≡ zoned_bytes s n a false ahead) (f : over ≡ ahead / P) where
+  module _ (over : ℕ) (t : List ℕ) (e : t ≡ holding f false ahead) (i : over ≡ ahead / P) where
     test : eqb over 1 ≡ leb P ahead
-    test = ap (λ (v : ℕ). eqb v 1) f ∙ carry_out ahead P (ten_pos n) (omega (arith, ahead_is, x_small, y_small, ten_pos n))
+    test = ap (λ (v : ℕ). eqb v 1) i ∙ carry_out ahead P (ten_pos (length f)) (omega (arith, ahead_is, x_small, y_small, ten_pos (length f)))
 
-    pub more_left : over ≡ 1 → (z : Bool) (r : ℕ) (t₁ : List ℕ) → z ≡ eqb (size (bytes_of t n a)) 0 → r ≡ finished g false z status → t₁ ≡ sign_put g z t a
-        → Left s n a status (signed_sum g (not g) s n a d) r t₁
-    more_left i z r t₁ q h k =
-        let full : P ≤ ahead = leb-true P ahead (sym test ∙ eq-eqb over 1 i) in
+    pub again : Field t
+    again = field_put f ahead t some e
+
+    pub more_left : over ≡ 1 → (r : ℕ) (u : List ℕ) → r ≡ finished g false (eqb (size (from_right t)) 0) status → u ≡ sign_put g (eqb (size (from_right t)) 0) t
+        → LeftIn f status (signed_sum g (not g) f d) r u
+    more_left q r u h k =
+        let full : P ≤ ahead = leb-true P ahead (sym test ∙ eq-eqb over 1 q) in
         let le : y ≤ x = omega (arith, ahead_is) in
         let is : ahead ≡ x - y + P = omega (arith, ahead_is) in
         rw (add_unlike g x y le)
-        (settled s n a status ahead (x - y) g false inn fits some (ap (λ (v : ℕ). v % P) is ∙ add-mod_right (x - y) P)
-        (sym (lt-leb P (x - y) (omega (arith, x_small)))) t z r t₁ e (zero_told s n a ahead t z inn fits e q) h k)
+        (settled f status ahead (x - y) g false some (ap (λ (v : ℕ). v % P) is ∙ add-mod_right (x - y) P) (sym (lt-leb P (x - y) (omega (arith, x_small)))) t r u e h k)
 
     -- without a carry: ten to the n less that is the difference
     abbrev below : ℕ
-    below = round_of n t a
+    below = round_of t
+
+    same : length t ≡ length f
+    same = held_length f t false ahead e
 
     short : (over ≡ 1 → ⊥) → ahead < P
-    short i = leb-false P ahead (sym test ∙ ne_eqb over 1 i)
+    short q = leb-false P ahead (sym test ∙ ne_eqb over 1 q)
 
-    again_size : ahead < P → size (bytes_of t n a) ≡ ahead
-    again_size h = rw e (zoned_size s n a false ahead inn fits ∙ mod-eq_of_lt h)
+    again_size : ahead < P → size (from_right t) ≡ ahead
+    again_size h = rw (same, e) (zoned_size f (length f) (length f - 1) false ahead (omega (arith, some)) (omega (arith, some)) ∙ mod-eq_of_lt h)
 
     below_is : ahead < P → below ≡ y - x
     below_is h =
-        let p : size (bytes_of t n a) % P ≡ ahead = rw (again_size h) (mod-eq_of_lt h) in
-        omega (arith, p, zero-mod P, ahead_is)
+        let p : size (from_right t) % P ≡ ahead = rw (again_size h) (mod-eq_of_lt h) in
+        let whole : 10 ^ length t ≡ P = ap (λ (n : ℕ). 10 ^ n) same in
+        let q : size (from_right t) % 10 ^ length t ≡ ahead = rw whole p in
+        omega (arith, q, zero-mod (10 ^ length t), ahead_is, whole)
 
-    pub again : Field t n a
-    again = field_put s n a ahead t inn fits e
-
-    pub less_left : (over ≡ 1 → ⊥) → (t₂ : List ℕ) → t₂ ≡ zoned_bytes t n a false below
-        → (z : Bool) (r : ℕ) (t₁ : List ℕ) → z ≡ eqb (size (bytes_of t₂ n a)) 0 → r ≡ finished (not g) false z status → t₁ ≡ sign_put (not g) z t₂ a
-        → Left s n a status (signed_sum g (not g) s n a d) r t₁
-    less_left i t₂ e₂ z r t₁ q h k =
-        let lt : x < y = omega (arith, short i, ahead_is) in
-        let whole : t₂ ≡ zoned_bytes s n a false below = e₂ ∙ ap (λ (l : List ℕ). zoned_bytes l n a false below) e ∙ written_again s n a _ _ inn fits in
+    pub less_left : (over ≡ 1 → ⊥) → (v : List ℕ) → v ≡ holding t false below → (r : ℕ) (u : List ℕ)
+        → r ≡ finished (not g) false (eqb (size (from_right v)) 0) status → u ≡ sign_put (not g) (eqb (size (from_right v)) 0) v
+        → LeftIn f status (signed_sum g (not g) f d) r u
+    less_left q v e₂ r u h k =
+        let lt : x < y = omega (arith, short q, ahead_is) in
+        let whole : v ≡ holding f false below = holding_alike f t v false below some same e₂ in
         rw (add_other g x y lt)
-        (settled s n a status below (y - x) (not g) false inn fits some (ap (λ (v : ℕ). v % P) (below_is (short i)))
-        (sym (lt-leb P (y - x) (omega (arith, y_small)))) t₂ z r t₁ whole (zero_told s n a below t₂ z inn fits whole q) h k)
+        (settled f status below (y - x) (not g) false some (ap (λ (n : ℕ). n % P) (below_is (short q))) (sym (lt-leb P (y - x) (omega (arith, y_small)))) v r u whole h k)
 
 -- ---- zones put first
 
-module _ (s : List ℕ) (n a : ℕ) (inn : a < length s) (fits : n ≤ a + 1) (good : all_digits (bytes_of s n a) ≡ true) (t : List ℕ)
-    (e : t ≡ zoned_bytes s n a false (size (bytes_of s n a))) where
-  zone_size : size (bytes_of t n a) ≡ size (bytes_of s n a)
-  zone_size = rw e (zoned_size s n a false (size (bytes_of s n a)) inn fits ∙ mod-eq_of_lt (size_below s n a good))
+module _ (f d t : List ℕ) (status : ℕ) (fits : Fits f d) (good : all_digits (from_right f) ≡ true) (z : Zones f t) where
+  pub both_operands : Operands t d
+  both_operands =
+      record {
+        field = zones_field f t z good;
+        fits = record { some = fits.some; shorter = omega (arith, fits.shorter, z.same_length); most = omega (arith, fits.most, z.same_length); digits = fits.digits };
+      }
+
+  nonempty : 0 < length f
+  nonempty = omega (arith, fits.some, fits.shorter)
 
   -- change neither the exact sum nor the result
-  pub zone_left : (status : ℕ) (g h : Bool) (d : List ℕ) (r : ℕ) (u : List ℕ) → Left t n a status (signed_sum g h t n a d) r u → Left s n a status (signed_sum g h s n a d) r u
-  zone_left status g h d r u l =
-      let k : Left t n a status (signed_sum g h s n a d) r u = rw zone_size at l in
-      let m : Bool = left_minus n (signed_sum g h s n a d) in
-      let c : ℕ = cut n (signed_sum g h s n a d) in
-      record { storage = k.storage ∙ ap (λ (v : List ℕ). zoned_bytes v n a m c) e ∙ written_again s n a _ (zoned_byte m c) inn fits; status_after = k.status_after }
+  zone_left : (g h : Bool) (r : ℕ) (u : List ℕ) → LeftIn t status (signed_sum g h t d) r u → LeftIn f status (signed_sum g h f d) r u
+  zone_left g h r u l =
+      let m : LeftIn t status (signed_sum g h f d) r u = rw (zones_size f t z good) at l in
+      record {
+        storage = holding_alike f t u _ _ nonempty z.same_length m.storage ∙ ap (λ (n : ℕ). holding f (left_minus n (signed_sum g h f d)) (cut n (signed_sum g h f d))) z.same_length;
+        status_after = m.status_after ∙ ap (λ (n : ℕ). zoned_status n status (signed_sum g h f d)) z.same_length;
+      }
 
--- ---- operand 2 copied
+  module _ (less g1 g2 : Bool) (i : g1 ≡ minus (from_right f)) (j : g2 ≡ minus (from_right d)) where
+    abbrev exactly : ℤ
+    exactly = cond less ◌-ℤ◌ ◌+ℤ◌ (value (from_right f)) (value (from_right d))
 
-module _ (s : List ℕ) (q a1 a2 status : ℕ) (ready : Ready s q a1 a2) (byte : q < 256) (d : List ℕ)
-    (e : d ≡ written (replicate 31 0) (l2 q) 30 (λ j. get_or s (a2 - j) 0)) where
-  copy_is : size (bytes_of d (l1 q) 30) ≡ size (bytes_of s (l2 q) a2)
-  copy_is = copy_size s (l2 q) a2 (l1 q) d e ready.digits_two (omega arith) (omega arith)
+    exact : (h : Bool) → not (beq g2 less) ≡ h → exactly ≡ signed_sum g1 h f d
+    unfolding value
+    exact h k = rw (← i, ← j, ← k) (op_signed less g1 g2 (size (from_right f)) (size (from_right d)))
 
-  pub copy_digits : all_digits (bytes_of d (l1 q) 30) ≡ true
-  copy_digits = copy_good s (l2 q) a2 (l1 q) d e ready.digits_two (omega arith) (omega arith)
+    pub sum_all : (r : ℕ) (u : List ℕ) → LeftIn t status (signed_sum g1 g1 t d) r u → beq g1 (not (beq g2 less)) ≡ true → LeftIn f status exactly r u
+    sum_all r u l x = rw (exact g1 (same_sign g1 _ x)) (zone_left g1 g1 r u l)
 
-  -- it has no more digits than operand 2
-  pub copy_short : size (bytes_of d (l1 q) 30) < 10 ^ l2 q
-  copy_short = rw copy_is (size_below s (l2 q) a2 ready.digits_two)
+    pub difference_all : (r : ℕ) (u : List ℕ) → LeftIn t status (signed_sum g1 (not g1) t d) r u → beq g1 (not (beq g2 less)) ≡ false → LeftIn f status exactly r u
+    difference_all r u l x = rw (exact (not g1) (other_sign g1 _ x)) (zone_left g1 (not g1) r u l)
 
-  pub operands : all_digits (bytes_of s (l1 q) a1) ≡ true → (t : List ℕ) → t ≡ zoned_bytes s (l1 q) a1 false (size (bytes_of s (l1 q) a1)) → Operands t (l1 q) a1 d
-  operands good t f =
-      record { field = field_put s (l1 q) a1 _ t ready.inside_one ready.fits_one f; most = omega arith; digits_two = copy_digits }
+-- ---- ZAZ: zeros in front of the second field, and then the zones
 
-  -- ZAZ puts it as it is, and then the zones
-  module _ (t : List ℕ) (f : t ≡ written s (l1 q) a1 (λ j. get_or d (30 - j) 0)) where
-    put_digit : (j : ℕ) → j < l1 q → digit (get_or t (a1 - j) 0) ≡ digit_at (size (bytes_of d (l1 q) 30)) j
-    put_digit j p = rw f (ap digit (written_inside s (l1 q) a1 _ j ready.inside_one ready.fits_one p) ∙ digit_of_size d (l1 q) 30 j copy_digits p)
+module _ (f d : List ℕ) (fits : Fits f d) (zs e t : List ℕ) (zero : zs ≡ replicate (length (take (length f - length d) f)) 0) (is : e ≡ d) where
+  abbrev l : ℕ
+  l = length f - length d
 
-    pub put_good : all_digits (bytes_of t (l1 q) a1) ≡ true
-    put_good = digits_read t (l1 q) a1 (λ j p. rw (put_digit j p) (digit_small (size (bytes_of d (l1 q) 30)) j))
+  abbrev cleared : List ℕ
+  cleared = zs ++ drop l f
 
-    put_size : size (bytes_of t (l1 q) a1) ≡ size (bytes_of d (l1 q) 30)
-    put_size = size_read t (l1 q) a1 (size (bytes_of d (l1 q) 30)) put_digit ∙ mod-eq_of_lt (size_below d (l1 q) 30 copy_digits)
+  abbrev k : ℕ
+  k = length cleared - l
 
-    pub put_inside : a1 < length t
-    put_inside = rw (f, written_length) ready.inside_one
+  abbrev m : ℕ
+  m = size (from_right d)
 
-    pub put_zoned_lem : (u : List ℕ) → u ≡ zoned_bytes t (l1 q) a1 false (size (bytes_of t (l1 q) a1)) → u ≡ zoned_bytes s (l1 q) a1 false (size (bytes_of d (l1 q) 30))
-    put_zoned_lem u h =
-        h ∙ ap (λ (k : ℕ). zoned_bytes t (l1 q) a1 false k) put_size ∙ ap (λ (v : List ℕ). zoned_bytes v (l1 q) a1 false (size (bytes_of d (l1 q) 30))) f ∙
-        written_again s (l1 q) a1 _ _ ready.inside_one ready.fits_one
+  zs_length : length zs ≡ l
+  zs_length = ap length zero ∙ length-replicate _ _ ∙ length-take-le l f (omega arith)
 
-  pub zaz_left : (g z : Bool) (t t₁ : List ℕ) (r : ℕ) → g ≡ eqb (zone (get_or s a2 0)) 0xD → t ≡ zoned_bytes s (l1 q) a1 false (size (bytes_of d (l1 q) 30))
-      → z ≡ eqb (size (bytes_of d (l1 q) 30) % 10 ^ l1 q) 0 → r ≡ finished g false z status → t₁ ≡ sign_put g z t a1
-      → Left s (l1 q) a1 status (value (bytes_of s (l2 q) a2)) r t₁
-  unfolding value
-  zaz_left g z t t₁ r i p f h k =
-      let m = size (bytes_of s (l2 q) a2) in
-      let small : m < 10 ^ l1 q = rw copy_is at (size_below d (l1 q) 30 copy_digits) in
-      rw (minus_read s (l2 q) a2 (omega arith), ← i)
-      (settled s (l1 q) a1 status (size (bytes_of d (l1 q) 30)) m g false ready.inside_one ready.fits_one (omega arith)
-      (ap (λ (k : ℕ). k % 10 ^ l1 q) copy_is) (sym (lt-leb (10 ^ l1 q) m small)) t z r t₁ p f h k)
+  cleared_length : length cleared ≡ length f
+  cleared_length = omega (arith, length-append zs (drop l f), length-drop l f, zs_length)
 
-  -- the exact result of AZ and SZ, by the signs g1 and g2
-  pub exact : (less g1 g2 h : Bool) → g1 ≡ eqb (zone (get_or s a1 0)) 0xD → g2 ≡ eqb (zone (get_or s a2 0)) 0xD → not (beq g2 less) ≡ h
-      → cond less ◌-ℤ◌ ◌+ℤ◌ (value (bytes_of s (l1 q) a1)) (value (bytes_of s (l2 q) a2))
-      ≡ signed_sum g1 h s (l1 q) a1 d
-  unfolding value
-  exact less g1 g2 h i j k =
-      rw (minus_read s (l1 q) a1 (omega arith), minus_read s (l2 q) a2 (omega arith), ← i, ← j, ← k, copy_is) (op_signed less g1 g2 (size (bytes_of s (l1 q) a1)) (size (bytes_of s (l2 q) a2)))
+  in_cleared : l + k ≤ length cleared
+  in_cleared = omega (arith, cleared_length)
 
--- ---- by the calls' promises: k, n, m and l are what the calls of l2 and l1 answer
+  k_is : length e ≡ k
+  k_is = ap length is ∙ omega (arith, cleared_length, fits.shorter)
 
-module _ (s : List ℕ) (q a1 a2 status : ℕ) (ready : Ready s q a1 a2) (byte : q < 256) (d : List ℕ) (k : ℕ)
-    (e : d ≡ written (replicate 31 0) k 30 (λ j. get_or s (a2 - j) 0)) (two : k ≡ l2 q) where
-  whole : d ≡ written (replicate 31 0) (l2 q) 30 (λ j. get_or s (a2 - j) 0)
-  whole = rw two at e
+  nonzero : 0 < length f
+  nonzero = omega (arith, fits.some, fits.shorter)
 
-  -- ZAZ
-  module _ (t : List ℕ) (n : ℕ) (f : t ≡ written s n a1 (λ j. get_or d (30 - j) 0)) (one : n ≡ l1 q) where
-    put : t ≡ written s (l1 q) a1 (λ j. get_or d (30 - j) 0)
-    put = rw one at f
+  put_length : length (put_mid l k cleared e) ≡ length f
+  put_length = spliced_length cleared l k in_cleared e k_is ∙ cleared_length
 
-    pub second_good : (m : ℕ) → m ≡ l1 q → all_digits (bytes_of t m a1) ≡ true
-    second_good m o = rw o (put_good s q a1 a2 status ready byte d whole t put)
+  put_digit : (j : ℕ) → j < length f → Dec (j < length d) → digit (get_or (put_mid l k cleared e) (length f - 1 - j) 0) ≡ digit_at m j
+  put_digit j q (yes p) =
+      let i : l + (length d - 1 - j) ≡ length f - 1 - j = omega (arith, fits.shorter) in
+      let h = spliced_in cleared l k in_cleared e k_is (length d - 1 - j) (omega (arith, k_is, ap length is)) in
+      ap digit (rw i at h ∙ ap (λ (v : List ℕ). get_or v (length d - 1 - j) 0) is) ∙ digit_of_size d (length d) (length d - 1) j fits.digits p
+  put_digit j q (no p) =
+      let i : length f - 1 - j < l = omega (arith, fits.shorter) in
+      let small : m < 10 ^ j =
+      omega (arith, size_below d (length d) (length d - 1) fits.digits, pow-le-pow_right {n = 10} (omega arith) {i = length d} {j = j} (omega arith)) in
+      let long : length (take l f) ≡ l = length-take-le l f (omega arith) in
+      ap digit
+      (spliced_left cleared l k in_cleared e k_is (length f - 1 - j) i ∙ get_or_append_left zs (drop l f) 0 (length f - 1 - j) (omega (arith, zs_length)) ∙
+      ap (λ (v : List ℕ). get_or v (length f - 1 - j) 0) zero ∙ get_or-replicate (length (take l f)) (length f - 1 - j) 0 0 (omega (arith, long))) ∙
+      sym (ap (λ (h : ℕ). h % 10) (div-eq_of_lt small))
 
-    module _ (u : List ℕ) (m : ℕ) (h : u ≡ zoned_bytes t m a1 false (size (bytes_of t m a1))) (o : m ≡ l1 q) where
-      zoned : u ≡ zoned_bytes s (l1 q) a1 false (size (bytes_of d (l1 q) 30))
-      zoned = put_zoned_lem s q a1 a2 status ready byte d whole t put u (rw o at h)
+  module _ (z : Zones (put_mid l k cleared e) t) where
+    t_length : length t ≡ length f
+    t_length = z.same_length ∙ put_length
 
-      pub second_zoned : (l : ℕ) → l ≡ l1 q → all_digits (bytes_of u l a1) ≡ true
-      second_zoned l i = rw i (field_put s (l1 q) a1 _ u ready.inside_one ready.fits_one zoned).digits
+    value_held : t ≡ holding f false m
+    value_held =
+        holds f t false m nonzero t_length
+        (λ j q. z.each (length f - 1 - j) (omega (arith, put_length)) ∙ ap (λ (d : ℕ). 0xF0 + d) (put_digit j q (dec_lt j (length d))) ∙ plain_byte m j)
 
-      pub second_left : (l r : ℕ) (g z : Bool) (v : List ℕ) → z ≡ eqb (size (bytes_of u l a1)) 0 → l ≡ l1 q → g ≡ eqb (get_or s a2 0 / 16) 13
-          → (r ≡ finished g false z status) → v ≡ sign_put g z u a1 → Left s (l1 q) a1 status (value (bytes_of s (l2 q) a2)) r v
-      second_left l r g z v p i j x y =
-          let zero = zero_told s (l1 q) a1 _ u z ready.inside_one ready.fits_one zoned (rw i at p) in
-          zaz_left s q a1 a2 status ready byte d whole g z u v r j zoned zero x y
+    pub value_left : (status r : ℕ) (g : Bool) (u : List ℕ) → g ≡ minus (from_right d) → r ≡ finished g false (eqb (size (from_right t)) 0) status
+        → u ≡ sign_put g (eqb (size (from_right t)) 0) t → LeftIn f status (value (from_right d)) r u
+    unfolding value
+    value_left status r g u i h p =
+        let small : m < 10 ^ length f =
+        omega (arith, size_below d (length d) (length d - 1) fits.digits, pow-le-pow_right {n = 10} (omega arith) {i = length d} {j = length f} fits.shorter) in
+        rw (← i) (settled f status m m g false nonzero refl (sym (lt-leb (10 ^ length f) m small)) t r u value_held h p)
 
-  -- AZ and SZ
-  module _ (good : all_digits (bytes_of s (l1 q) a1) ≡ true) (t : List ℕ) (n : ℕ) (f : t ≡ zoned_bytes s n a1 false (size (bytes_of s n a1))) (one : n ≡ l1 q) where
-    zones : t ≡ zoned_bytes s (l1 q) a1 false (size (bytes_of s (l1 q) a1))
-    zones = rw one at f
+-- ---- operand 1 in storage as a field, and operand 2's copy: r is operand 2's field, and n and k are what the calls of l1 and l2 answer
 
-    pub both_operands : (m : ℕ) → m ≡ l1 q → Operands t m a1 d
-    both_operands m o = rw o (operands s q a1 a2 status ready byte d whole good t zones)
+module _ (s : List ℕ) (q a1 a2 n k : ℕ) (ready : Ready s q a1 a2) (byte : q < 256) (one : n ≡ l1 q) (two : k ≡ l2 q) (c r : List ℕ)
+    (copied : take (length r) c ≡ r) (told : (length r ≡ k) × (from_right r ≡ bytes_of s k a2)) where
+  abbrev first : List ℕ
+  first = part_of (a1 + 1 - n) (a1 + 1 - (a1 + 1 - n)) s
 
-    module _ (less g1 g2 : Bool) (i : g1 ≡ eqb (get_or s a1 0 / 16) 13) (j : g2 ≡ eqb (get_or s a2 0 / 16) 13) where
-      abbrev exactly : ℤ
-      exactly = cond less ◌-ℤ◌ ◌+ℤ◌ (value (bytes_of s (l1 q) a1)) (value (bytes_of s (l2 q) a2))
+  abbrev second : List ℕ
+  second = take k c
 
-      sign_left : (h : Bool) → not (beq g2 less) ≡ h → (m r : ℕ) (v : List ℕ) → m ≡ l1 q → Left t m a1 status (signed_sum g1 h t m a1 d) r v → Left s (l1 q) a1 status exactly r v
-      sign_left h x m r v o l =
-          rw (exact s q a1 a2 status ready byte d whole less g1 g2 h i j x)
-          (zone_left s (l1 q) a1 ready.inside_one ready.fits_one good t zones status g1 h d r v (rw o at l))
+  reaches : n ≤ a1 + 1
+  reaches = omega (arith, ready.fits_one)
 
-      pub sum_all : (m r : ℕ) (v : List ℕ) → Left t m a1 status (signed_sum g1 g1 t m a1 d) r v → m ≡ l1 q → beq g1 (not (beq g2 less)) ≡ true → Left s (l1 q) a1 status exactly r v
-      sum_all m r v l o x = sign_left g1 (same_sign g1 _ x) m r v o l
+  second_is : second ≡ r
+  second_is = rw told.0 at copied
 
-      pub difference_all : (m r : ℕ) (v : List ℕ) → Left t m a1 status (signed_sum g1 (not g1) t m a1 d) r v → m ≡ l1 q → beq g1 (not (beq g2 less)) ≡ false
-          → Left s (l1 q) a1 status exactly r v
-      difference_all m r v l o x = sign_left (not g1) (other_sign g1 _ x) m r v o l
+  second_bytes : from_right second ≡ bytes_of s (l2 q) a2
+  second_bytes = ap from_right second_is ∙ told.1 ∙ ap (λ (h : ℕ). bytes_of s h a2) two
 
-  pub both_short : (m l : ℕ) → m ≡ l1 q → l ≡ l2 q → size (bytes_of d m 30) < 10 ^ l
-  both_short m l o p = rw (o, p) (copy_short s q a1 a2 status ready byte d whole)
+  first_length : length first ≡ n
+  first_length = field_length s n a1 ready.inside_one reaches
+
+  first_bytes : from_right first ≡ bytes_of s (l1 q) a1
+  first_bytes = field_bytes s n a1 ready.inside_one reaches ∙ ap (λ (h : ℕ). bytes_of s h a1) one
+
+  pub second_fits : Fits first second
+  second_fits =
+      let long : length second ≡ k = ap length second_is ∙ told.0 in
+      record {
+        some = omega (arith, long, two);
+        shorter = omega (arith, long, first_length, one, two);
+        most = omega (arith, first_length, one, byte);
+        digits = rw second_bytes ready.digits_two;
+      }
+
+  pub first_digits : all_digits (bytes_of s (l1 q) a1) ≡ true → all_digits (from_right first) ≡ true
+  first_digits h = rw first_bytes h
+
+  back : (status v : ℕ) (x : ℤ) (t : List ℕ) → LeftIn first status x v t → Left s (l1 q) a1 status x v (put_mid (a1 + 1 - n) (a1 + 1 - (a1 + 1 - n)) s t)
+  back status v x t h =
+      let long : length first ≡ l1 q = first_length ∙ one in
+      record {
+        storage =
+            put_back s n a1 ready.inside_one reaches _ _ t h.storage ∙ ap (λ (i : ℕ). zoned_bytes s i a1 (left_minus (length first) x) (cut (length first) x)) one ∙
+            ap (λ (i : ℕ). zoned_bytes s (l1 q) a1 (left_minus i x) (cut i x)) long;
+        status_after = h.status_after ∙ ap (λ (i : ℕ). zoned_status i status x) long;
+      }
+
+  pub second_left : (status v : ℕ) (t : List ℕ) → LeftIn first status (value (from_right second)) v t
+      → Left s (l1 q) a1 status (value (bytes_of s (l2 q) a2)) v (put_mid (a1 + 1 - n) (a1 + 1 - (a1 + 1 - n)) s t)
+  second_left status v t h = back status v _ t (rw second_bytes at h)
+
+  pub both_left : (less : Bool) (status v : ℕ) (t : List ℕ) → LeftIn first status (cond less ◌-ℤ◌ ◌+ℤ◌ (value (from_right first)) (value (from_right second))) v t
+      → Left s (l1 q) a1 status (cond less ◌-ℤ◌ ◌+ℤ◌ (value (bytes_of s (l1 q) a1)) (value (bytes_of s (l2 q) a2))) v (put_mid (a1 + 1 - n) (a1 + 1 - (a1 + 1 - n)) s t)
+  both_left less status v t h = back status v _ t (rw (first_bytes, second_bytes) at h)

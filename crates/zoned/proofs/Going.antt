@@ -4,101 +4,102 @@ use mathlib.Core.Bool.{true, Bool, false}
 use mathlib.Core.List.{List}
 use Prim.Native.Nat.{ℕ, ◌+◌, ◌-◌, ◌*◌, ◌/◌, ◌^◌, ◌≤◌, ◌<◌}
 use native.Mathlib.Omega.{arith}
-use lib.ListN.{get_or, set}
-use Rattle.manual.specs.Values.{bytes_of, digit, size}
+use lib.ListN.{length, get_or, set}
+use Rattle.manual.specs.Values.{digit, size}
 use Rattle.manual.proofs.Digits.{digit_at, digit_small}
 use Rattle.manual.proofs.FieldBytes.{written_none}
 use Rattle.manual.proofs.ZonedRead.{zoned_bytes, digit_of_size}
-use Rattle.zoned.specs.Working.{taken, added_up, still, alone, Field, Operands}
+use Rattle.zoned.specs.Working.{from_right, holding, taken, added_up, still, alone, Field, Operands}
 use Rattle.zoned.proofs.Summing.{sum_first, turn_digit, turn_rest, put_next, next_byte, zero_digit}
 use Rattle.zoned.proofs.Carrying.{still_over, still_field}
 
--- j columns of the field in s and of y are added, with start carried into the first: t is the storage, and over goes into the next
-pub record Going (v w : Bool) (s : List ℕ) (n a y start : ℕ) (t : List ℕ) (over j : ℕ) : Type 0 where
-  pub within : j ≤ n
+-- j columns of the field f and of y are added, with start carried into the first: t is the field, and over goes into the next
+pub record Going (v w : Bool) (f : List ℕ) (y start : ℕ) (t : List ℕ) (over j : ℕ) : Type 0 where
   pub carry : over ≤ 1
-  pub put : t ≡ zoned_bytes s j a false (added_up v w start n (size (bytes_of s n a)) y)
-  pub left : added_up v w start n (size (bytes_of s n a)) y / 10 ^ j ≡ added_up v w over (n - j) (size (bytes_of s n a) / 10 ^ j) (y / 10 ^ j)
+  pub put : t ≡ zoned_bytes f j (length f - 1) false (added_up v w start (length f) (size (from_right f)) y)
+  pub left : added_up v w start (length f) (size (from_right f)) y / 10 ^ j ≡ added_up v w over (length f - j) (size (from_right f) / 10 ^ j) (y / 10 ^ j)
 
-pub going_start : (v w : Bool) (s : List ℕ) (n a y start : ℕ) → start ≤ 1 → Going v w s n a y start s start 0
-going_start v w s n a y start h =
-    record { within = omega arith; carry = h; put = sym (written_none _ _ _); left = sum_first v w start n (size (bytes_of s n a)) y }
-
--- the field's byte, whose turn it is
-going_byte : (v w : Bool) (s t : List ℕ) (n a y start over j : ℕ) → Field s n a → Going v w s n a y start t over j → j < n
-    → get_or t (a - j) 0 ≡ 0xF0 + digit_at (size (bytes_of s n a)) j
-going_byte v w s t n a y start over j o g h = next_byte s t n j a _ o h g.put
-
-byte_small : (v w : Bool) (s t : List ℕ) (n a y start over j : ℕ) → Field s n a → Going v w s n a y start t over j → j < n → get_or t (a - j) 0 ≤ 249
-byte_small v w s t n a y start over j o g h = omega (arith, going_byte v w s t n a y start over j o g h, digit_small (size (bytes_of s n a)) j)
+pub going_start : (v w : Bool) (f : List ℕ) (y start : ℕ) → start ≤ 1 → Going v w f y start f start 0
+going_start v w f y start h =
+    record { carry = h; put = sym (written_none _ _ _); left = sum_first v w start (length f) (size (from_right f)) y }
 
 low_digit : (b d : ℕ) → d ≤ 9 → b ≡ 0xF0 + d → digit b ≡ d
 low_digit b d h e = omega arith
 
-going_digit : (v w : Bool) (s t : List ℕ) (n a y start over j : ℕ) → Field s n a → Going v w s n a y start t over j → j < n
-    → digit (get_or t (a - j) 0) ≡ digit_at (size (bytes_of s n a)) j
-going_digit v w s t n a y start over j o g h = low_digit _ _ (digit_small _ _) (going_byte v w s t n a y start over j o g h)
+-- the field's byte, whose turn it is
+module _ (v w : Bool) (f t : List ℕ) (y start over j : ℕ) (o : Field f) (g : Going v w f y start t over j) (h : j < length f) where
+  going_byte : get_or t (length f - 1 - j) 0 ≡ 0xF0 + digit_at (size (from_right f)) j
+  going_byte = next_byte f t j _ o h g.put
 
-pub digit_low : (v w : Bool) (s t : List ℕ) (n a y start over j : ℕ) → Field s n a → Going v w s n a y start t over j → j < n → digit (get_or t (a - j) 0) ≤ 9
-digit_low v w s t n a y start over j o g h = rw (going_digit v w s t n a y start over j o g h) (digit_small _ _)
+  byte_small : get_or t (length f - 1 - j) 0 ≤ 249
+  byte_small = omega (arith, going_byte, digit_small (size (from_right f)) j)
 
-pub second_low : (s d : List ℕ) (n a j : ℕ) → Operands s n a d → j < n → digit (get_or d (30 - j) 0) ≤ 9
-second_low s d n a j o h = rw (digit_of_size d n 30 j o.digits_two h) (digit_small _ _)
+  going_digit : digit (get_or t (length f - 1 - j) 0) ≡ digit_at (size (from_right f)) j
+  going_digit = low_digit _ _ (digit_small _ _) going_byte
+
+  pub digit_low : digit (get_or t (length f - 1 - j) 0) ≤ 9
+  digit_low = rw going_digit (digit_small _ _)
+
+-- the second field's digit
+second_digit : (f d : List ℕ) (j : ℕ) → Operands f d → length d ≡ length f → j < length f → digit (get_or d (length f - 1 - j) 0) ≡ digit_at (size (from_right d)) j
+second_digit f d j o e h = let i : length f - 1 - j ≡ length d - 1 - j = omega arith in rw i (digit_of_size d (length d) (length d - 1) j o.fits.digits (omega arith))
+
+pub second_low : (f d : List ℕ) (j : ℕ) → Operands f d → length d ≡ length f → j < length f → digit (get_or d (length f - 1 - j) 0) ≤ 9
+second_low f d j o e h = rw (second_digit f d j o e h) (digit_small _ _)
 
 taken_small : (v : Bool) (d : ℕ) → d ≤ 9 → taken v d ≤ 9
 taken_small false d h = h
 taken_small true d h = omega arith
 
 -- one turn, with c in its column, of which k is carried on
-going_next : (v w : Bool) (s t u : List ℕ) (n a y start over j c k : ℕ) → Going v w s n a y start t over j → j < n
-    → c ≡ 0xF0 + taken v (digit_at (size (bytes_of s n a)) j) + taken w (digit_at y j) + over → k ≡ (c - 0xF0) / 10 → u ≡ set t (a - j) (c - 10 * k)
-    → Going v w s n a y start u k (j + 1)
-going_next v w s t u n a y start over j c k g h e f p =
-    let x = size (bytes_of s n a) in
+going_next : (v w : Bool) (f t u : List ℕ) (y start over j c k : ℕ) → Going v w f y start t over j → j < length f
+    → c ≡ 0xF0 + taken v (digit_at (size (from_right f)) j) + taken w (digit_at y j) + over → k ≡ (c - 0xF0) / 10 → u ≡ set t (length f - 1 - j) (c - 10 * k)
+    → Going v w f y start u k (j + 1)
+going_next v w f t u y start over j c k g h e i p =
+    let x = size (from_right f) in
     let one = taken_small v (digit_at x j) (digit_small x j) in
     let two = taken_small w (digit_at y j) (digit_small y j) in
     record {
-      within = omega arith;
-      carry = omega (arith, g.carry, one, two, e, f);
-      put = put_next s t u j a _ (c - 10 * k) g.put p (turn_digit v w n j x y over c k _ h g.left e f);
-      left = turn_rest v w n j x y over c k _ h g.left e f;
+      carry = omega (arith, g.carry, one, two, e, i);
+      put = put_next f t u j (length f - 1) _ (c - 10 * k) g.put p (turn_digit v w (length f) j x y over c k _ h g.left e i);
+      left = turn_rest v w (length f) j x y over c k _ h g.left e i;
     }
 
 -- the turns by the calls' promises: b is the field's byte and p what is added to it
-module _ (w : Bool) (s d t : List ℕ) (n a start over j b p : ℕ) (o : Operands s n a d) (g : Going false w s n a (size (bytes_of d n 30)) start t over j) (h : j < n)
-    (e : b ≡ get_or t (a - j) 0) (f : (p ≡ taken w (digit (get_or d (30 - j) 0))) × (p ≤ 9)) where
+module _ (w : Bool) (f d t : List ℕ) (start over j b p : ℕ) (o : Operands f d) (same : length d ≡ length f) (g : Going false w f (size (from_right d)) start t over j)
+    (h : j < length f) (e : b ≡ get_or t (length f - 1 - j) 0) (i : (p ≡ taken w (digit (get_or d (length f - 1 - j) 0))) × (p ≤ 9)) where
   pub columns_small : b + p + over < 260
-  columns_small = omega (arith, byte_small false w s t n a _ start over j o.field g h, g.carry)
+  columns_small = omega (arith, byte_small false w f t _ start over j o.field g h, g.carry)
 
-  pub columns_next : (u : List ℕ) (k : ℕ) → k ≡ (b + p + over - 0xF0) / 10 → u ≡ set t (a - j) (b + p + over - 10 * k)
-      → Going false w s n a (size (bytes_of d n 30)) start u k (j + 1)
-  columns_next u k i q =
-      let one = going_byte false w s t n a _ start over j o.field g h in
-      let two = digit_of_size d n 30 j o.digits_two h in
-      going_next false w s t u n a _ start over j (b + p + over) k g h (rw (e, f.0, one, two)) i q
+  pub columns_next : (u : List ℕ) (k : ℕ) → k ≡ (b + p + over - 0xF0) / 10 → u ≡ set t (length f - 1 - j) (b + p + over - 10 * k)
+      → Going false w f (size (from_right d)) start u k (j + 1)
+  columns_next u k q r =
+      let one = going_byte false w f t _ start over j o.field g h in
+      let two = second_digit f d j o same h in
+      going_next false w f t u _ start over j (b + p + over) k g h (rw (e, i.0, one, two)) q r
 
-module _ (w : Bool) (s t : List ℕ) (n a start over j b p : ℕ) (o : Field s n a) (g : Going false w s n a 0 start t over j) (h : j < n)
-    (e : b ≡ get_or t (a - j) 0) (f : (p ≡ taken w 0) × (p ≤ 9)) where
+module _ (w : Bool) (f t : List ℕ) (start over j b p : ℕ) (o : Field f) (g : Going false w f 0 start t over j) (h : j < length f)
+    (e : b ≡ get_or t (length f - 1 - j) 0) (i : (p ≡ taken w 0) × (p ≤ 9)) where
   pub run_on_small : b + p + over < 260
-  run_on_small = omega (arith, byte_small false w s t n a _ start over j o g h, g.carry)
+  run_on_small = omega (arith, byte_small false w f t _ start over j o g h, g.carry)
 
-  pub run_on_next : (u : List ℕ) (k : ℕ) → k ≡ (b + p + over - 0xF0) / 10 → u ≡ set t (a - j) (b + p + over - 10 * k) → Going false w s n a 0 start u k (j + 1)
-  run_on_next u k i q =
-      let one = going_byte false w s t n a 0 start over j o g h in
-      going_next false w s t u n a 0 start over j (b + p + over) k g h (rw (e, f.0, one, zero_digit j)) i q
+  pub run_on_next : (u : List ℕ) (k : ℕ) → k ≡ (b + p + over - 0xF0) / 10 → u ≡ set t (length f - 1 - j) (b + p + over - 10 * k) → Going false w f 0 start u k (j + 1)
+  run_on_next u k q r =
+      let one = going_byte false w f t 0 start over j o g h in
+      going_next false w f t u 0 start over j (b + p + over) k g h (rw (e, i.0, one, zero_digit j)) q r
 
-pub turned_next : (s t u : List ℕ) (n a over j p k : ℕ) → Field s n a → Going true false s n a 0 1 t over j → j < n
-    → (p ≡ taken true (digit (get_or t (a - j) 0))) × (p ≤ 9) → k ≡ (0xF0 + p + over - 0xF0) / 10 → u ≡ set t (a - j) (0xF0 + p + over - 10 * k)
-    → Going true false s n a 0 1 u k (j + 1)
-turned_next s t u n a over j p k o g h f i q =
-    let one = going_digit true false s t n a 0 1 over j o g h in
-    let e = rw one at f.0 in
-    going_next true false s t u n a 0 1 over j (0xF0 + p + over) k g h (omega (arith, e, zero_digit j)) i q
+pub turned_next : (f t u : List ℕ) (over j p k : ℕ) → Field f → Going true false f 0 1 t over j → j < length f
+    → (p ≡ taken true (digit (get_or t (length f - 1 - j) 0))) × (p ≤ 9) → k ≡ (0xF0 + p + over - 0xF0) / 10 → u ≡ set t (length f - 1 - j) (0xF0 + p + over - 10 * k)
+    → Going true false f 0 1 u k (j + 1)
+turned_next f t u over j p k o g h i q r =
+    let one = going_digit true false f t 0 1 over j o g h in
+    let e = rw one at i.0 in
+    going_next true false f t u 0 1 over j (0xF0 + p + over) k g h (omega (arith, e, zero_digit j)) q r
 
 -- where the carry stands still the rest is the sum's already
-module _ (w : Bool) (s t : List ℕ) (n a start over j c : ℕ) (o : Field s n a) (g : Going false w s n a 0 start t over j) (e : over ≡ c) (f : c ≡ still w) where
-  pub still_put : t ≡ zoned_bytes s n a false (alone w start n s a)
-  still_put = still_field w s t n a j over (alone w start n s a) o g.within (e ∙ f) g.left g.put
+module _ (w : Bool) (f t : List ℕ) (start over j c : ℕ) (o : Field f) (g : Going false w f 0 start t over j) (h : j < length f) (e : over ≡ c) (i : c ≡ still w) where
+  pub still_put : t ≡ holding f false (alone w start f)
+  still_put = still_field w f t j over (alone w start f) o h (e ∙ i) g.left g.put
 
-  pub still_carry : over ≡ alone w start n s a / 10 ^ n
-  still_carry = still_over w n j (size (bytes_of s n a)) over (alone w start n s a) g.within (e ∙ f) g.left
+  pub still_carry : over ≡ alone w start f / 10 ^ length f
+  still_carry = still_over w (length f) j (size (from_right f)) over (alone w start f) (omega arith) (e ∙ i) g.left

@@ -1,19 +1,18 @@
--- Columns of digits, turn by turn, and the field that a copy is. What carries it: division by ten takes the first column off.
+-- Columns of digits, turn by turn. What carries it: division by ten takes the first column off.
 use mathlib.Core.Path.{◌≡◌, sym, ap, ◌∙◌}
 use mathlib.Core.Bool.{Bool, true, false}
 use mathlib.Core.List.{List}
 use mathlib.Core.Logic.{inr}
 use Prim.Native.Nat.{ℕ, suc, ◌+◌, ◌-◌, ◌*◌, ◌/◌, ◌%◌, ◌^◌, ◌≤◌, ◌<◌}
-use native.Mathlib.Decide.{dec_lt}
-use native.Mathlib.Nat.{pow-suc, div-div-eq-div-mul, div-eq_of_lt, sub-zero, div-one, mod-lt, mod-one, mod-eq_of_lt, zero-div, pow-le-pow_right}
+use native.Mathlib.Nat.{pow-suc, div-div-eq-div-mul, sub-zero, div-one, mod-lt, mod-one, zero-div}
 use native.Mathlib.Numerals.{add-one}
 use native.Mathlib.Omega.{arith}
-use lib.ListN.{get_or, set, replicate, get_or-replicate, get_or-eq_default}
-use Rattle.manual.specs.Values.{bytes_of, digit, zone, size, all_digits}
-use Rattle.manual.proofs.Digits.{ten_pos, digit_at, digit_small, cut_next}
-use Rattle.manual.proofs.FieldBytes.{written, written_next, written_inside, written_outside}
-use Rattle.manual.proofs.ZonedRead.{zoned_byte, zoned_bytes, size_read, digits_read, digit_of_size}
-use Rattle.zoned.specs.Working.{taken, part, added_up, Field}
+use lib.ListN.{length, get_or, set}
+use Rattle.manual.specs.Values.{digit, zone, size}
+use Rattle.manual.proofs.Digits.{ten_pos, digit_at, cut_next}
+use Rattle.manual.proofs.FieldBytes.{written_next, written_outside}
+use Rattle.manual.proofs.ZonedRead.{zoned_byte, zoned_bytes, digit_of_size}
+use Rattle.zoned.specs.Working.{from_right, taken, part, added_up, Field}
 
 -- ---- one column after another
 
@@ -70,48 +69,9 @@ zero_digit i = ap (λ (k : ℕ). k % 10) (zero-div (10 ^ i))
 pub byte_of : (b d : ℕ) → zone b ≡ 0xF → digit b ≡ d → b ≡ 0xF0 + d
 byte_of b d p q = omega arith
 
-pub next_byte : (s s₁ : List ℕ) (n i a T : ℕ) → Field s n a → i < n → s₁ ≡ zoned_bytes s i a false T
-    → get_or s₁ (a - i) 0 ≡ 0xF0 + digit_at (size (bytes_of s n a)) i
-next_byte s s₁ n i a T o h e =
-    let fits : n ≤ a + 1 = o.fits in
+pub next_byte : (f t : List ℕ) (i T : ℕ) → Field f → i < length f → t ≡ zoned_bytes f i (length f - 1) false T
+    → get_or t (length f - 1 - i) 0 ≡ 0xF0 + digit_at (size (from_right f)) i
+next_byte f t i T o h e =
     rw e
-    (written_outside s i a (zoned_byte false T) (a - i) (inr (omega arith)) ∙
-    byte_of (get_or s (a - i) 0) _ (o.zones i h) (digit_of_size s n a i o.digits h))
-
-pub size_below : (t : List ℕ) (n a : ℕ) → all_digits (bytes_of t n a) ≡ true → size (bytes_of t n a) < 10 ^ n
-size_below t n a good =
-    let m = size (bytes_of t n a) in
-    omega (arith, mod-lt m (ten_pos n), size_read t n a m (λ j q. digit_of_size t n a j good q))
-
-zeros : (j : ℕ) → get_or {A = ℕ} (replicate 31 0) j 0 ≡ 0
-zeros j = pick (dec_lt j 31)
-  where
-    pick : Dec (j < 31) → get_or {A = ℕ} (replicate 31 0) j 0 ≡ 0
-    pick (yes p) = get_or-replicate 31 j 0 0 p
-    pick (no q) = let h : 31 ≤ j = omega arith in get_or-eq_default (replicate 31 0) 0 h
-
--- a copy of a field of digits, with zeros to the left of it, is a longer field of the same size
-module _ (s : List ℕ) (k b n : ℕ) (d : List ℕ) (e : d ≡ written (replicate 31 0) k 30 (λ j. get_or s (b - j) 0)) (good : all_digits (bytes_of s k b) ≡ true)
-    (more : k ≤ n) (most : n ≤ 31) where
-  m : ℕ
-  m = size (bytes_of s k b)
-
-  copy_digit : (j : ℕ) → j < n → digit (get_or d (30 - j) 0) ≡ digit_at m j
-  unfolding m
-  copy_digit j q = rw e (pick (dec_lt j k))
-    where
-      pick : Dec (j < k) → digit (get_or (written (replicate 31 0) k 30 (λ j. get_or s (b - j) 0)) (30 - j) 0) ≡ digit_at (size (bytes_of s k b)) j
-      pick (yes p) = ap digit (written_inside (replicate 31 0) k 30 _ j (omega arith) (omega arith) p) ∙ digit_of_size s k b j good p
-      pick (no p) =
-          let small : size (bytes_of s k b) < 10 ^ j = omega (arith, size_below s k b good, pow-le-pow_right {n = 10} (omega arith) {i = k} {j = j} (omega arith)) in
-          ap digit (written_outside (replicate 31 0) k 30 _ (30 - j) (inr (omega arith)) ∙ zeros (30 - j)) ∙
-          sym (ap (λ (h : ℕ). h % 10) (div-eq_of_lt small))
-
-  pub copy_size : size (bytes_of d n 30) ≡ size (bytes_of s k b)
-  unfolding m
-  copy_size =
-      let small : size (bytes_of s k b) < 10 ^ n = omega (arith, size_below s k b good, pow-le-pow_right {n = 10} (omega arith) {i = k} {j = n} more) in
-      size_read d n 30 m copy_digit ∙ mod-eq_of_lt small
-
-  pub copy_good : all_digits (bytes_of d n 30) ≡ true
-  copy_good = digits_read d n 30 (λ j q. rw (copy_digit j q) (digit_small m j))
+    (written_outside f i (length f - 1) (zoned_byte false T) (length f - 1 - i) (inr (omega arith)) ∙
+    byte_of (get_or f (length f - 1 - i) 0) _ (o.zones (length f - 1 - i) (omega arith)) (digit_of_size f (length f) (length f - 1) i o.digits h))

@@ -8,11 +8,11 @@ use Rattle.zoned.proofs.combine.Goals as goal
 pub returns-in_err-combine_way : goal.returns-in_err-combine_way
 returns-in_err-combine_way g c = search (rules, combine_stops)
 
-pub combined-m-requires-clause-ready : goal.combined-m-requires-clause-ready
-combined-m-requires-clause-ready g c = search (rules, combine_ready)
+pub combine_second-m-requires-clause-ready : goal.combine_second-m-requires-clause-ready
+combine_second-m-requires-clause-ready g c = search (rules, combine_ready)
 
-pub combined-m-requires-clause-a1_value : goal.combined-m-requires-clause-a1_value
-combined-m-requires-clause-a1_value g c = search (rules, combine_digits)
+pub combine_second-m-requires-clause-a1_value : goal.combine_second-m-requires-clause-a1_value
+combine_second-m-requires-clause-a1_value g c = search (rules, combine_digits)
 
 pub returns : goal.returns
-returns g c = combine_goes c.args.m.now c.args.s.now c.args.f (LESS-type (number g.row.LESS)) c.in_ok-combine_way.ensures c.combined-m.result c.combined-m.new.s c.combined-m.ensures
+returns g c = combine_goes c.args.m.now c.args.s.now c.args.f (LESS-type (number g.row.LESS)) c.in_ok-combine_way.ensures c.combine_second-m.result c.combine_second-m.new.s c.combine_second-m.ensures

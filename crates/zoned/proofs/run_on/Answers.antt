@@ -6,8 +6,8 @@ use Rattle.zoned.proofs.run_on.Goals as goal
 pub loop-j-init : goal.loop-j-init
 loop-j-init g c = search (rules, going_start)
 
-pub returns-then-over-still-clause-s_after : goal.returns-then-over-still-clause-s_after
-returns-then-over-still-clause-s_after g c = search (rules, still_put)
+pub returns-then-over-still-clause-field_after : goal.returns-then-over-still-clause-field_after
+returns-then-over-still-clause-field_after g c = search (rules, still_put)
 
 pub returns-then-over-still-clause-value : goal.returns-then-over-still-clause-value
 returns-then-over-still-clause-value g c = search (rules, still_carry)

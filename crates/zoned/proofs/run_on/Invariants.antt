@@ -6,4 +6,4 @@ use Rattle.zoned.specs.contracts.run_on.{NINES-type}
 use Rattle.zoned.proofs.run_on.Given as goal
 
 abbrev pub invariant-loop-j : goal.invariant-loop-j
-invariant-loop-j g l = Going false (NINES-type (number g.row.NINES)) l.fn.s l.n l.a 0 l.start l.s l.over l.j
+invariant-loop-j g l = Going false (NINES-type (number g.row.NINES)) l.fn.field 0 l.start l.field l.over l.j

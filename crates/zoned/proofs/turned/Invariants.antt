@@ -4,4 +4,4 @@ use Rattle.zoned.proofs.Going.{Going}
 use Rattle.zoned.proofs.turned.Given as goal
 
 abbrev pub invariant-loop-j : goal.invariant-loop-j
-invariant-loop-j l = Going true false l.fn.s l.n l.a 0 1 l.s l.over l.j
+invariant-loop-j l = Going true false l.fn.field 0 1 l.field l.over l.j
