@@ -16,7 +16,7 @@ use Rattle.manual.proofs.Digits.{ten_pos, digit_at, digit-cut}
 use Rattle.manual.proofs.FieldBytes.{written_inside, written_outside, written_length}
 use Rattle.manual.proofs.ZonedRead.{zoned_byte, zoned_bytes, size_read, digit_of_size}
 use Rattle.zoned.specs.Working.{from_right, holding, part, added_up, still, sum_of, alone, Field, Operands}
-use Rattle.zoned.proofs.Fields.{part_of, part_length, part_byte, spliced_length, spliced_in, spliced_left, holds, held, held_length, all_low, digit_low, size_below}
+use Rattle.zoned.proofs.Fields.{part_of, part_length, part_byte, spliced_length, spliced_in, spliced_left, holds, held, held_length, all_low, each_low, size_below}
 use Rattle.zoned.proofs.Summing.{part_next, part_none, byte_of}
 
 -- ---- powers of ten
@@ -142,7 +142,7 @@ module _ (w : Bool) (k m x y c : ℕ) (small : y < 10 ^ k) where
 field_part : (f : List ℕ) (l k : ℕ) → Field f → l + k ≤ length f → Field (part_of l k f)
 field_part f l k o in_f =
     record {
-      digits = all_low (part_of l k f) (λ i h. let p : i < k = omega (arith, part_length f l k in_f) in rw (part_byte f l k in_f i p) (digit_low f o.digits (l + i) (omega arith)));
+      digits = all_low (part_of l k f) (λ i h. let p : i < k = omega (arith, part_length f l k in_f) in rw (part_byte f l k in_f i p) (each_low f o.digits (l + i) (omega arith)));
       zones = λ i h. let p : i < k = omega (arith, part_length f l k in_f) in rw (part_byte f l k in_f i p) (o.zones (l + i) (omega arith));
     }
 
@@ -175,7 +175,7 @@ module _ (f d : List ℕ) (o : Operands f d) where
   right_length : length right ≡ k
   right_length = part_length f l k in_f
 
-  pub right_long : length d ≡ length right
+  right_long : length d ≡ length right
   right_long = omega (arith, right_length, k_is)
 
   pub right_operands : Operands right d
@@ -225,7 +225,7 @@ module _ (f d : List ℕ) (o : Operands f d) where
     pub left_field : Field left
     left_field =
         record {
-          digits = all_low left (λ i h. let p : i < l = omega (arith, left_length) in rw (left_byte i p) (digit_low f o.field.digits i (omega (arith, meet))));
+          digits = all_low left (λ i h. let p : i < l = omega (arith, left_length) in rw (left_byte i p) (each_low f o.field.digits i (omega (arith, meet))));
           zones = λ i h. let p : i < l = omega (arith, left_length) in rw (left_byte i p) (o.field.zones i (omega (arith, meet)));
         }
 

@@ -247,16 +247,6 @@ module _ (s : List ℕ) (q a1 a2 n k : ℕ) (ready : Ready s q a1 a2) (byte : q 
   first_bytes : from_right first ≡ bytes_of s (l1 q) a1
   first_bytes = field_bytes s n a1 ready.inside_one reaches ∙ ap (λ (h : ℕ). bytes_of s h a1) one
 
-  pub second_fits : Fits first second
-  second_fits =
-      let long : length second ≡ k = ap length second_is ∙ told.0 in
-      record {
-        some = omega (arith, long, two);
-        shorter = omega (arith, long, first_length, one, two);
-        most = omega (arith, first_length, one, byte);
-        digits = rw second_bytes ready.digits_two;
-      }
-
   pub first_digits : all_digits (bytes_of s (l1 q) a1) ≡ true → all_digits (from_right first) ≡ true
   first_digits h = rw first_bytes h
 

@@ -42,9 +42,6 @@ module _ (s : List ℕ) (l k : ℕ) (in_s : l + k ≤ length s) where
 
   -- with t in its place
   module _ (t : List ℕ) (same : length t ≡ k) where
-    spliced : List ℕ
-    spliced = put_mid l k s t
-
     before : length (take l s) ≡ l
     before = length-take-le l s (omega arith)
 
@@ -99,8 +96,8 @@ module _ (s : List ℕ) (n a : ℕ) (inn : a < length s) (fits : n ≤ a + 1) wh
 
 -- ---- digits
 
-pub digit_low : (f : List ℕ) → all_digits (from_right f) ≡ true → Digits f
-digit_low f e i q =
+pub each_low : (f : List ℕ) → all_digits (from_right f) ≡ true → Digits f
+each_low f e i q =
     let j : length f - 1 - (length f - 1 - i) ≡ i = omega arith in
     let h : digit (get_or f (length f - 1 - (length f - 1 - i)) 0) ≤ 9 =
     rw (digit_of_size f (length f) (length f - 1) (length f - 1 - i) e (omega arith)) (digit_small (size (from_right f)) (length f - 1 - i)) in
@@ -109,15 +106,15 @@ digit_low f e i q =
 pub all_low : (f : List ℕ) → Digits f → all_digits (from_right f) ≡ true
 all_low f d = digits_read f (length f) (length f - 1) (λ j q. d (length f - 1 - j) (omega arith))
 
-pub told_bad : (r : Bool) (f : List ℕ) → (r ≡ false) ↔ Digits f → r ≡ true → all_digits (from_right f) ≡ false
-told_bad r f t e = pick (all_digits (from_right f)) refl
+pub bad_told : (r : Bool) (f : List ℕ) → (r ≡ false) ↔ Digits f → r ≡ true → all_digits (from_right f) ≡ false
+bad_told r f t e = pick (all_digits (from_right f)) refl
   where
     pick : (b : Bool) → all_digits (from_right f) ≡ b → all_digits (from_right f) ≡ false
-    pick true g = absurd (false≢true (sym (t.1 (digit_low f g)) ∙ e))
+    pick true g = absurd (false≢true (sym (t.1 (each_low f g)) ∙ e))
     pick false g = g
 
-pub told_good : (r : Bool) (f : List ℕ) → (r ≡ false) ↔ Digits f → r ≡ false → all_digits (from_right f) ≡ true
-told_good r f t e = all_low f (t.0 e)
+pub good_told : (r : Bool) (f : List ℕ) → (r ≡ false) ↔ Digits f → r ≡ false → all_digits (from_right f) ≡ true
+good_told r f t e = all_low f (t.0 e)
 
 -- of the first k and of what follows the first l
 module _ (f : List ℕ) (k : ℕ) (r : Bool) (told : (r ≡ false) ↔ Digits (take k f)) (in_f : k ≤ length f) where

@@ -30,12 +30,6 @@ pub part_none : (v : Bool) (x : ℕ) → part v 0 x ≡ 0
 part_none false x = mod-one x
 part_none true x = omega (arith, mod-one x)
 
-pub sum_last : (v w : Bool) (c n i x y T : ℕ) → n ≤ i → T / 10 ^ i ≡ added_up v w c (n - i) x y → c ≡ T / 10 ^ i
-sum_last v w c n i x y T h left =
-    let q : n - i ≡ 0 = omega arith in
-    let e = rw q at left in
-    omega (arith, e, part_none v x, part_none w y)
-
 -- T is the whole sum; t is its column i on top of the zone, with the carry c into it, and k is what that carries on
 module _ (v w : Bool) (n i x y c t k T : ℕ) (h : i < n) (left : T / 10 ^ i ≡ added_up v w c (n - i) (x / 10 ^ i) (y / 10 ^ i))
     (e : t ≡ 0xF0 + taken v (digit_at x i) + taken w (digit_at y i) + c) (f : k ≡ (t - 0xF0) / 10) where

@@ -64,7 +64,7 @@ fn has_bad(field: &[u8]) -> bool
 }
 
 // A digit above 9 stops with 8.
-#[tactic(auto, unfolding(manual::specs::Values::digits_of), using(crate::proofs::Fields::told_bad, crate::proofs::Fields::told_good))]
+#[tactic(auto, unfolding(manual::specs::Values::digits_of), using(crate::proofs::Fields::bad_told, crate::proofs::Fields::good_told))]
 fn digits_of(field: &[u8]) -> Result<(), Stop>
     requires { length field.now ≤ 31 }
     ensures { result ≡ digits_of (from_right field.now) }

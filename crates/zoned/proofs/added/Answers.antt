@@ -1,13 +1,10 @@
 -- The columns with digits to add, and then those left of them.
 use Rattle.std.proofs.Common.{rules}
-use Rattle.zoned.proofs.Carrying.{right_operands, right_long, left_field, both_over, both_field}
+use Rattle.zoned.proofs.Carrying.{right_operands, left_field, both_over, both_field}
 use Rattle.zoned.proofs.added.Goals as goal
 
 pub columns-over-requires-clause-operands : goal.columns-over-requires-clause-operands
 columns-over-requires-clause-operands g c = search (rules, right_operands)
-
-pub columns-over-requires-clause-same_length : goal.columns-over-requires-clause-same_length
-columns-over-requires-clause-same_length g c = search (rules, right_long)
 
 pub run_on-requires-clause-field : goal.run_on-requires-clause-field
 run_on-requires-clause-field g c = search (rules, left_field)

@@ -1,10 +1,7 @@
 -- What is left in the field is left in storage.
 use Rattle.std.proofs.Common.{rules}
-use Rattle.zoned.proofs.Combining.{second_fits, first_digits, both_left}
+use Rattle.zoned.proofs.Combining.{first_digits, both_left}
 use Rattle.zoned.proofs.combine_second.Goals as goal
-
-pub combined-requires-clause-fits : goal.combined-requires-clause-fits
-combined-requires-clause-fits g c = search (rules, second_fits)
 
 pub combined-requires-clause-digits : goal.combined-requires-clause-digits
 combined-requires-clause-digits g c = search (rules, first_digits)

@@ -1,10 +1,7 @@
 -- What is left in the field is left in storage.
 use Rattle.std.proofs.Common.{rules}
-use Rattle.zoned.proofs.Combining.{second_fits, second_left}
+use Rattle.zoned.proofs.Combining.{second_left}
 use Rattle.zoned.proofs.put_second.Goals as goal
-
-pub put_value-requires : goal.put_value-requires
-put_value-requires c = search (rules, second_fits)
 
 pub returns : goal.returns
 returns c = search (rules, second_left)
