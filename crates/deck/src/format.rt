@@ -63,7 +63,7 @@ pub(crate) fn all_zero(page: &[u8]) -> bool
     clear
 }
 
-// The machine of the record 01 at the front of `d`.
+/// The machine of the record at the front of `d`.
 #[tactic(auto, unfolding(manual::specs::Deck::machine_in))]
 pub(crate) fn machine_in(d: &[u8]) -> Machine
     requires { 19 ≤ length d.now }
@@ -84,14 +84,14 @@ pub(crate) fn machine_in(d: &[u8]) -> Machine
     }
 }
 
-// The bytes of a word, the high one first. Its own function, so that the range of the word is known.
+// The bytes of a word, the high one first. With `to_be_bytes` in place at each field, the proof of the record doesn't close.
 fn word(v: u16) -> [u8; 2]
     ensures { result ≡ word v }
 {
     v.to_be_bytes()
 }
 
-// The record 01 of a machine with this many pages.
+/// The record of a machine with this many pages, 1 to 256.
 #[tactic(auto, unfolding(manual::specs::Deck::machine_record))]
 pub(crate) fn machine_record(pages: usize, m: Machine) -> [u8; HEAD]
     requires pages_bound { pages ≤ 256 }

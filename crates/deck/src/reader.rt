@@ -16,7 +16,7 @@ struct Page<'a> {
 }
 
 /// The records after the first that are not walked yet.
-#[derive(Clone, Copy)]
+#[derive(Drop)]
 struct Records<'a> {
     rest: &'a [u8],
 }
@@ -80,8 +80,8 @@ impl<'a> Records<'a> {
                     bytes: &d[2..PAGE_RECORD],
                 }))
             }
-            _ if d.len() != 1 => Err(DeckFault::BytesAfterEnd),
-            _ => Ok(None),
+            _ if d.len() == 1 => Ok(None),
+            _ => Err(DeckFault::BytesAfterEnd),
         }
     }
 }
@@ -148,6 +148,7 @@ pub(crate) fn lay_pages(deck: &[u8], s: &mut [u8])
     ensures { s.new ≡ paged (length deck.now) (drop 19 deck.now) s.old }
 {
     let mut records = Records::behind_head(deck);
+    // no record of an accepted deck is refused
     while let Ok(Some(page)) = records.next_page() {
         page.lay(s);
     }
