@@ -3,10 +3,10 @@ use Rattle.std.proofs.Common.{◌≡◌, ℕ, ◌+◌, ◌<◌, ◌&&◌, List, 
 use Rattle.std.proofs.Math.Seq.{drop-cons, drop-length}
 use Rattle.manual.specs.Deck.{all_zero}
 
-pub zero_turn : (s : List ℕ) (i : ℕ) → i < length s → all_zero (drop i s) ≡ (eqb (get_or s i 0) 0 && all_zero (drop (i + 1) s))
+pub all_zero_at : (s : List ℕ) (i : ℕ) → i < length s → all_zero (drop i s) ≡ (eqb (get_or s i 0) 0 && all_zero (drop (i + 1) s))
 unfolding all_zero
-zero_turn s i h = rw (drop-cons s i 0 h, add-one)
+all_zero_at s i h = rw (drop-cons s i 0 h, add-one)
 
-pub zero_end : (s : List ℕ) (i : ℕ) → length s ≡ i → all_zero (drop i s) ≡ true
+pub all_zero_end : (s : List ℕ) (i : ℕ) → length s ≡ i → all_zero (drop i s) ≡ true
 unfolding all_zero
-zero_end s i e = rw (← e, drop-length)
+all_zero_end s i e = rw (← e, drop-length)

@@ -52,7 +52,7 @@ impl TryFrom<u8> for Kind {
 }
 
 /// Whether every byte is zero.
-#[tactic(auto, using(crate::proofs::Zeros::zero_turn, crate::proofs::Zeros::zero_end))]
+#[tactic(auto, using(crate::proofs::Zeros::all_zero_at, crate::proofs::Zeros::all_zero_end))]
 pub(crate) fn all_zero(page: &[u8]) -> bool
     ensures { result ≡ all_zero page.now }
 {

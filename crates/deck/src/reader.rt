@@ -1,5 +1,5 @@
 // The reader: a pass that checks the deck, and a pass that lays its pages.
-ghost use Rattle.std.specs.Prelude.{◌≡◌, ◌+◌, ◌*◌, ◌<◌, cond, not, ◌≤◌, eqb, length, get_or, drop, take, OnOk, IfOk, IfErr, MatchResult, MatchOption, IsTrue, List, Ok, Err, true, false, ℕ};
+ghost use Rattle.std.specs.Prelude.{◌≡◌, ◌+◌, ◌*◌, ◌<◌, cond, not, ◌≤◌, eqb, length, get_or, drop, take, OnOk, IfOk, IfErr, IfSome, IfNone, List, Ok, Err, true, false, ℕ};
 ghost use Rattle.manual.specs.Numbers.{ReadAnswer};
 ghost use Rattle.manual.specs.Deck.{record_answer, first_answer, page_answer, later_answer, deck_answer, over, paged};
 ghost use Rattle.manual.proofs.DeckRecords.{Asked, later_record, EndAt};
@@ -69,7 +69,9 @@ impl<'a> Records<'a> {
     // The page of the next record, or none at the end of the deck.
     #[tactic(auto, unfolding(manual::proofs::DeckRecords::later_record))]
     fn next_page(&mut self) -> Result<Option<Page<'a>>, DeckFault>
-        ensures walked { MatchResult result (λ r. MatchOption r (EndAt self.old.rest.now) (λ p. IsPage self.old.rest.now p self.new.rest.now)) (λ x. (pages next : ℕ) (more : ReadAnswer) → later_record self.old.rest.now pages next more ≡ Err x) }
+        ensures page { IfOk result (λ r. IfSome r (λ p. IsPage self.old.rest.now p self.new.rest.now)) }
+        ensures end { IfOk result (λ r. IfNone r (EndAt self.old.rest.now)) }
+        ensures err { IfErr result (λ x. (pages next : ℕ) (more : ReadAnswer) → later_record self.old.rest.now pages next more ≡ Err x) }
     {
         let d = self.rest;
         match asked(d, false)? {

@@ -1,18 +1,16 @@
--- A page has its place; at the end the whole is laid; no record of an accepted deck is refused.
-use Rattle.std.proofs.Common.{◌≡◌, None, rules}
+-- A page has its place, and what is behind it is shorter; at the end the whole is laid; no record of an accepted deck is refused.
+use Rattle.std.proofs.Common.{rules}
 use Rattle.deck.proofs.Reading.{page_length, page_shorter, laying_fits, laying_end, laying_refused}
 use Rattle.deck.proofs.reader.lay_pages.Goals as goal
 
 pub lay-requires : goal.lay-requires
-lay-requires c = let r = rw c.in-Ok-Some.field-0-is at c.in-Ok-Some.ensures.walked in (page_length r, laying_fits c.loop-page.invariant r)
+lay-requires c = let r = rw c.in-Ok-Some.field-0-is at c.in-Ok-Some.ensures.page in (page_length r, laying_fits c.loop-page.invariant r)
 
 pub loop-page-smaller : goal.loop-page-smaller
-loop-page-smaller c = page_shorter (rw c.in-Ok-Some.field-0-is at c.in-Ok-Some.ensures.walked)
+loop-page-smaller c = page_shorter (rw c.in-Ok-Some.field-0-is at c.in-Ok-Some.ensures.page)
 
 pub returns-in_default : goal.returns-in_default
-returns-in_default c =
-    let n : c.in_default.field-0 ≡ None = search rules in
-    laying_end c.loop-page.invariant (rw n at (rw c.in_default.is at c.next_page.ensures.walked))
+returns-in_default c = search (rules, laying_end c.loop-page.invariant)
 
 pub returns-in_default-2 : goal.returns-in_default-2
-returns-in_default-2 c = laying_refused c.loop-page.invariant (rw c.in_default.is at c.next_page.ensures.walked)
+returns-in_default-2 c = search (rules, laying_refused c.loop-page.invariant)
