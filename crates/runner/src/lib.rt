@@ -1,43 +1,50 @@
-// The deck runner's line, PUBLISHED: no `requires`, and one statement that determines every byte of the line.
+//! What the deck runner prints, PUBLISHED: no `requires`, and one statement that determines every byte of the line.
 #![tactic(auto)]
 
-mod text;
+mod registers;
 
-ghost use Rattle.std.specs.Prelude.{◌≡◌, false, ◌≤◌, length, get_or};
-ghost use Rattle.manual.specs.Numbers.{told};
-ghost use Rattle.manual.specs.Runner.{too_large, lent_size, number_line, run_line, line_of};
+ghost use Rattle.std.specs.Prelude.{◌≡◌, false, ◌≤◌, length, get_or, Some};
+ghost use Rattle.manual.specs.Runner.{too_large, lent_size, line_of};
 ghost use Rattle.runner.specs.Text.{printed};
 
-use manual::{DeckFault, Ended, Machine};
+use manual::{DeckFault, Ran};
+use registers::HexByte;
+pub use registers::Registers;
+use std::fmt;
 
-// The line stands at the front of `bytes`.
-#[derive(Clone, Copy)]
-pub struct Printed {
-    pub bytes: [u8; 64],
-    pub length: usize,
+/// What became of a deck. Displayed it is the line that the deck runner prints, its newline included.
+#[derive(Clone, Copy, Debug, PartialEq, Eq)]
+pub enum Printed {
+    /// The deck has more than 16,532 bytes, or asks for more than 64 pages.
+    TooLarge,
+    /// The deck isn't read, and why.
+    Refused(DeckFault),
+    /// The deck is read, and run for a million steps at most.
+    Ran(Ran),
 }
 
-// ---- the two kinds of line
+impl fmt::Display for Printed {
+    ghost use Rattle.std.specs.Prelude.{Some};
+    ghost use Rattle.runner.specs.Text.{shown};
 
-#[tactic(auto, unfolding(manual::specs::Runner::number_line), using(crate::proofs::Lines::as_printed))]
-fn number_line(n: u8) -> Printed
-    ensures { (result ≡ printed (number_line n)) × (result.length ≤ length result.bytes) }
-{
-    let l = text::with_decimal(text::nothing(), n as u32, 8);
-    text::with_byte(l, 10)
-}
+    ghost output = { λ p. Some (shown p) };
 
-fn run_line(m: Machine, e: Ended) -> Printed
-    ensures { (result ≡ printed (run_line m (told e))) × (result.length ≤ length result.bytes) }
-{
-    let a = e.answer;
-    let number = text::with_digit(text::nothing(), told::number_of(a));
-    let registers = text::with_registers(number, m);
-    let status = text::with_field(registers, m.status);
-    let steps = text::with_decimal(text::with_byte(status, 32), e.steps, 8);
-    let q = text::with_field(steps, told::q_of(a));
-    let r = text::with_field(q, told::r_of(a));
-    text::with_byte(r, 10)
+    fn fmt<W: fmt::Write>(&self, f: &mut fmt::Formatter<W>) -> fmt::Result {
+        match *self {
+            Printed::TooLarge => writeln!(f, "18"),
+            Printed::Refused(fault) => writeln!(f, "{}", told::fault_number(fault)),
+            Printed::Ran(ran) => {
+                let answer = ran.ended.answer;
+                let number = told::number_of(answer);
+                let registers = Registers(ran.machine);
+                let status = HexByte(ran.machine.status);
+                let steps = ran.ended.steps;
+                let q = HexByte(told::q_of(answer));
+                let r = HexByte(told::r_of(answer));
+                writeln!(f, "{number} {registers} {status} {steps} {q} {r}")
+            }
+        }
+    }
 }
 
 // ---- the deck
@@ -46,36 +53,25 @@ fn run_line(m: Machine, e: Ended) -> Printed
 fn second(deck: &[u8]) -> u8
     ensures { result ≡ get_or deck.now 1 0 }
 {
-    if 1 < deck.len() {
-        return deck[1];
-    }
-    0
+    deck.get(1).copied().unwrap_or(0)
 }
 
 #[tactic(auto, unfolding(manual::specs::Runner::too_large))]
 fn too_large(deck: &[u8]) -> bool
     ensures { result ≡ too_large deck.now }
 {
-    if 16532 < deck.len() {
-        return true;
-    }
-    63 < second(deck)
+    16532 < deck.len() || 63 < second(deck)
 }
 
-// The line of a deck that isn't too large, read into the storage `s`, whatever that holds.
+// What becomes of a deck that isn't too large, read into the storage `s`, whatever that holds.
 fn answered(deck: &[u8], s: &mut [u8]) -> Printed
     requires { (too_large deck.now ≡ false) × (length s.old ≡ lent_size deck.now) }
-    ensures { (result ≡ printed (line_of deck.now)) × (result.length ≤ length result.bytes) }
+    ensures { result ≡ printed deck.now }
 {
     let read = deck::read(deck, s);
-    let answer = read.answer;
-    match answer {
-        Err(fault) => number_line(told::fault_number(fault)),
-        Ok(()) => {
-            let m = read.machine;
-            let t = processor::run(m, s, 1000000);
-            run_line(t.machine, t.ended)
-        }
+    match read.answer {
+        Err(fault) => Printed::Refused(fault),
+        Ok(()) => Printed::Ran(processor::run(read.machine, s, 1000000)),
     }
 }
 
@@ -83,19 +79,20 @@ fn answered(deck: &[u8], s: &mut [u8]) -> Printed
 #[tactic(auto, using(crate::proofs::Decided::fits))]
 fn lent(deck: &[u8], storage: &mut [u8]) -> Printed
     requires { (too_large deck.now ≡ false) × (length storage.old ≡ 16384) }
-    ensures { (result ≡ printed (line_of deck.now)) × (result.length ≤ length result.bytes) }
+    ensures { result ≡ printed deck.now }
 {
     let size = (second(deck) as usize + 1) * 256;
     answered(deck, &mut storage[0..size])
 }
 
-#[tactic(auto, using(crate::proofs::Decided::large_line))]
+/// What the deck runner prints of a deck: reads it, and runs it for a million steps at most.
+#[tactic(auto, using(crate::proofs::Decided::large, crate::proofs::Decided::large_line, crate::proofs::Decided::shown_line))]
 pub fn line(deck: &[u8]) -> Printed
-    ensures { (result ≡ printed (line_of deck.now)) × (result.length ≤ length result.bytes) }
+    ensures value { result ≡ printed deck.now }
+    ensures text { ⟦<Printed as fmt::Display>⟧.output result ≡ Some (line_of deck.now) }
 {
     if too_large(deck) {
-        return number_line(18);
+        return Printed::TooLarge;
     }
-    let mut storage = [0u8; 16384];
-    lent(deck, &mut storage)
+    lent(deck, &mut [0u8; 16384])
 }

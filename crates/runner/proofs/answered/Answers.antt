@@ -1,11 +1,10 @@
--- `answered`: a refused deck's number, or the line of its run.
-use Rattle.std.specs.Prelude.{Ok}
+-- `answered`: a deck refused, or its run.
 use Rattle.std.proofs.Common.{rules}
-use Rattle.runner.proofs.Decided.{refused_line, ran_line}
+use Rattle.runner.proofs.Decided.{refused, ran}
 use Rattle.runner.proofs.answered.Goals as goal
 
 pub returns-in-Err : goal.returns-in-Err
-returns-in-Err c = (search (rules, refused_line), search rules)
+returns-in-Err c = search (rules, refused)
 
-pub returns-in-(Ok tt) : goal.returns-in-(Ok tt)
-returns-in-(Ok tt) c = (search (rules, ran_line), search rules)
+pub returns-in-Ok : goal.returns-in-Ok
+returns-in-Ok c = search (rules, ran)
