@@ -40,7 +40,12 @@ fn at(bytes: &[u8], i: usize) -> u8 {
 fn word_at(line: &[u8], i: usize) -> u16
     requires { i < 53 }
 {
-    word_of([at(line, i), at(line, i + 1), at(line, i + 2), at(line, i + 3)])
+    word_of([
+        at(line, i),
+        at(line, i + 1),
+        at(line, i + 2),
+        at(line, i + 3),
+    ])
 }
 
 fn machine_of(line: &[u8]) -> Machine {

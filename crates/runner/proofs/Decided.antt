@@ -13,7 +13,7 @@ use Rattle.manual.specs.declared.DeckFault.{DeckFault}
 use Rattle.manual.specs.declared.DeckOut.{DeckOut}
 use Rattle.manual.specs.declared.Machine.{Machine}
 use Rattle.manual.specs.declared.Ran.{Ran}
-use Rattle.manual.specs.Numbers.{Told, told, fault_number, ReadAnswer}
+use Rattle.manual.specs.Numbers.{told, ReadAnswer}
 use Rattle.manual.specs.Run.{RanOutcome, ran_outcome, run_of}
 use Rattle.manual.specs.Deck.{machine_in, storage_in, deck_answer, read_with, ReadOutcome, read_outcome, read_of}
 use Rattle.manual.specs.Runner.{number_line, too_large, lent_size, budget, read_line, line_of}

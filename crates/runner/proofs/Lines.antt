@@ -1,5 +1,5 @@
 -- A line's text, put together of what is written: numbers as the book writes them, and a run's line.
-use Rattle.std.proofs.Common.{◌≡◌, ℕ, suc, ◌+◌, ◌/◌, ◌%◌, ◌^◌, ◌<◌, ◌≤◌, List, [], ◌∷◌, ◌++◌, true, false, refl, sym, ap, append_assoc, ◌∙◌, arith, lt-ltb, le-ltb}
+use Rattle.std.proofs.Common.{◌≡◌, ℕ, ◌%◌, ◌<◌, List, [], ◌∷◌, ◌++◌, refl, sym, ap, append_assoc, ◌∙◌, arith, lt-ltb, le-ltb}
 use Rattle.std.specs.Fmt as Fmt
 use Rattle.std.proofs.lemmas.Fmt.{AppendsLastDigit, decimal_from_appends, length-decimal-le}
 use Rattle.manual.specs.declared.Machine.{Machine}
@@ -8,7 +8,7 @@ use Rattle.manual.specs.declared.Ran.{Ran}
 use Rattle.manual.specs.declared.DeckFault.{DeckFault}
 use Rattle.manual.specs.Numbers.{Told, told, answer_told, fault_number}
 use Rattle.manual.specs.Runner.{blank, newline, byte_text, decimal, decimal_text, registers_text, number_line, run_line}
-use Rattle.told.proofs.Telling.{told_of, answer_told_lem}
+use Rattle.told.proofs.Telling.{told_of}
 use Rattle.runner.specs.declared.Printed.{Printed}
 use Rattle.runner.specs.declared.Printed.TheVariants.{TooLarge, Refused}
 use Rattle.runner.specs.declared.Printed.TheVariants as P
@@ -30,7 +30,7 @@ unfolding run_line
 shown_run m t h = rw (eight_digits t.steps h)
 
 pub steps_told : (e : Ended) → (told e).steps ≡ e.steps
-steps_told e = ap (λ (t : Told). t.steps) (answer_told_lem e.answer e.steps)
+steps_told e = sym (ap (λ (t : Told). t.steps) (told_of e.answer e.steps refl refl refl))
 
 -- ---- what is written in each case
 

@@ -1,4 +1,4 @@
-//! What the deck runner prints, PUBLISHED: no `requires`, and one statement that determines every byte of the line.
+//! What the deck runner prints of a deck, PUBLISHED: no `requires`, and statements that determine the value and every byte of its text.
 #![tactic(auto)]
 
 mod registers;
@@ -15,11 +15,11 @@ use std::fmt;
 /// What became of a deck. Displayed it is the line that the deck runner prints, its newline included.
 #[derive(Clone, Copy, Debug, PartialEq, Eq)]
 pub enum Printed {
-    /// The deck has more than 16,532 bytes, or asks for more than 64 pages.
+    /// The deck has more than 16,532 bytes, or asks for more than 64 pages: number 18.
     TooLarge,
-    /// The deck isn't read, and why.
+    /// The deck isn't read, and why: that reason's number.
     Refused(DeckFault),
-    /// The deck is read, and run for a million steps at most.
+    /// The deck is read, and run for a million steps at most: number, registers, status, steps, and the Q and R bytes of a supervisor call.
     Ran(Ran),
 }
 
@@ -75,18 +75,8 @@ fn answered(deck: &[u8], s: &mut [u8]) -> Printed
     }
 }
 
-// Lends as much of the storage as the deck asks for.
-#[tactic(auto, using(crate::proofs::Decided::fits))]
-fn lent(deck: &[u8], storage: &mut [u8]) -> Printed
-    requires { (too_large deck.now ≡ false) × (length storage.old ≡ 16384) }
-    ensures { result ≡ printed deck.now }
-{
-    let size = (second(deck) as usize + 1) * 256;
-    answered(deck, &mut storage[0..size])
-}
-
-/// What the deck runner prints of a deck: reads it, and runs it for a million steps at most.
-#[tactic(auto, using(crate::proofs::Decided::large, crate::proofs::Decided::large_line, crate::proofs::Decided::shown_line))]
+/// What the deck runner prints of a deck: a deck that isn't too large is read and, where that isn't refused, run.
+#[tactic(auto, using(crate::proofs::Decided::fits, crate::proofs::Decided::large, crate::proofs::Decided::large_line, crate::proofs::Decided::shown_line))]
 pub fn line(deck: &[u8]) -> Printed
     ensures value { result ≡ printed deck.now }
     ensures text { ⟦<Printed as fmt::Display>⟧.output result ≡ Some (line_of deck.now) }
@@ -94,5 +84,7 @@ pub fn line(deck: &[u8]) -> Printed
     if too_large(deck) {
         return Printed::TooLarge;
     }
-    lent(deck, &mut [0u8; 16384])
+    let mut storage = [0u8; 16384];
+    let size = (second(deck) as usize + 1) * 256;
+    answered(deck, &mut storage[0..size])
 }
