@@ -64,8 +64,8 @@ fn source_reach(size: usize, n: usize, a: usize) -> Result<(), Stop>
     reach(size, n, a)
 }
 
-// Operand 2 as it was, the rightmost byte first: an overlap must not change a digit before it is taken.
-#[tactic(auto, using(crate::proofs::Taking::copied_none))]
+// Operand 2 as it was, the rightmost byte first: an overlap must not change a digit before it is taken. Taken by address: with no 20s operand 2 may lie outside storage, where no slice of it can be made.
+#[tactic(auto, using(crate::proofs::Taking::copied_none, crate::proofs::Taking::copied_more))]
 fn take(s: &[u8], a: usize, d: &mut [u8])
     requires { (length d.old ≤ a + 1) × (0 < length d.old → a < length s.now) }
     ensures { d.new ≡ bytes_of s.now (length d.new) a }
@@ -114,7 +114,7 @@ fn value_order(d: &[u8]) -> u8
     4
 }
 
-// Each 20 of the pattern, from the right, takes the next digit. A byte is written only after its turn, so the pattern is read where it lies.
+// Each 20 of the pattern, from the right, takes the next digit. A byte is written only after its turn, so the pattern is read where it lies. By address: over a slice the book's edit, a program over storage, would have to be stated again (no plainer).
 #[tactic(auto, using(crate::proofs::Editing::start, crate::proofs::Taking::counts))]
 fn put_edited(s: &mut [u8], a: usize, n: usize, d: &[u8])
     requires { (a < length s.old) × (n ≤ a + 1) × (count20 (bytes_of s.old n a) ≤ length d.now) }
@@ -139,6 +139,7 @@ pub fn ed(m: &mut Machine, s: &mut [u8], f: Fields) -> Result<(), Stop>
     reach(s.len(), n, a)?;
     let count = count_20(s, a, n);
     source_reach(s.len(), count, b)?;
+    // An array and not a Vec: the library has no heap. Filled where it lies: by value its 256 bytes are built twice.
     let mut copy = [0u8; 256];
     let d = &mut copy[..count];
     take(s, b, d);
@@ -160,7 +161,7 @@ fn ends_scan(b: u8) -> bool
     b <= 0xF9
 }
 
-// From the left, bytes become v until one of F1 to F9 is met: yields its address or the end.
+// From the left, bytes become v until one of F1 to F9 is met: yields its address or the end. By address: the address is what it yields.
 #[tactic(auto, using(crate::proofs::Scanning::start, crate::proofs::Scanning::found, crate::proofs::Scanning::ends))]
 fn scan_right(s: &mut [u8], a: usize, n: usize, v: u8) -> usize
     requires { a + n ≤ length s.old }

@@ -12,13 +12,6 @@ returns-in_err-digits_of c = search (rules, digit_stops)
 pub take-requires : goal.take-requires
 take-requires c = search (rules, lent_in)
 
-pub put_edited-requires : goal.put_edited-requires
-put_edited-requires c =
-    let h = reach_in (length c.args.s.now) (c.args.f.q + 1) c.args.f.a1 c.in_ok-reach.ensures in
-    let few : c.count_20-count.result ≤ 256 = omega arith in
-    let e = lent_full _ c.take.new.d c.count_20-count.result c.take.auto.d few in
-    omega arith
-
 pub returns : goal.returns
 returns c =
     let h = reach_in (length c.args.s.now) (c.args.f.q + 1) c.args.f.a1 c.in_ok-reach.ensures in
