@@ -257,9 +257,11 @@ field_put f m t some e =
 
 -- ---- digits that are zero
 
-pub all_zero_lem : (s : List ℕ) (n a : ℕ) → ((j : ℕ) → j < n → digit (get_or s (a - j) 0) ≡ 0) → true ≡ eqb (size (bytes_of s n a)) 0
-all_zero_lem s n a h =
-    sym (eq-eqb (size (bytes_of s n a)) 0 (size_read s n a 0 (λ j q. h j q ∙ sym (ap (λ (k : ℕ). k % 10) (zero-div (10 ^ j)))) ∙ zero-mod (10 ^ n)))
+pub all_zero : (f : List ℕ) (at : ℕ) → at ≤ 0 → ((i : ℕ) → at ≤ i → i < length f → digit (get_or f i 0) ≡ 0) → true ≡ eqb (size (from_right f)) 0
+all_zero f at e h =
+    let zero : size (from_right f) ≡ 0 % 10 ^ length f =
+    size_read f (length f) (length f - 1) 0 (λ j q. h (length f - 1 - j) (omega arith) (omega arith) ∙ sym (ap (λ (k : ℕ). k % 10) (zero-div (10 ^ j)))) in
+    sym (eq-eqb (size (from_right f)) 0 (zero ∙ zero-mod (10 ^ length f)))
 
 zero_digit : (s : List ℕ) (n a j : ℕ) → size (bytes_of s n a) ≡ 0 → j < n → digit (get_or s (a - j) 0) ≡ 0
 unfolding size bytes_of
@@ -267,8 +269,10 @@ zero_digit s zero a j e h = absurd (omega arith)
 zero_digit s (suc n) a zero e h = rw (sub-zero a) (omega (arith, e))
 zero_digit s (suc n) a (suc j) e h = let k : a - suc j ≡ a - 1 - j = omega arith in rw k (zero_digit s n (a - 1) j (omega (arith, e)) (omega arith))
 
-pub not_zero : (s : List ℕ) (n a j : ℕ) → j < n → (digit (get_or s (a - j) 0) ≡ 0 → ⊥) → false ≡ eqb (size (bytes_of s n a)) 0
-not_zero s n a j q h = sym (ne_eqb (size (bytes_of s n a)) 0 (λ e. h (zero_digit s n a j e q)))
+pub not_zero : (f : List ℕ) (i : ℕ) → i < length f → (digit (get_or f i 0) ≡ 0 → ⊥) → false ≡ eqb (size (from_right f)) 0
+not_zero f i q h =
+    let j : length f - 1 - (length f - 1 - i) ≡ i = omega arith in
+    sym (ne_eqb (size (from_right f)) 0 (λ e. h (let k = zero_digit f (length f) (length f - 1) (length f - 1 - i) e (omega arith) in rw j at k)))
 
 -- ---- the sign
 

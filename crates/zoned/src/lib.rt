@@ -126,13 +126,12 @@ fn put_zone(field: &mut [u8])
 }
 
 // Whether the digits are all zero: mostly the rightmost tells.
-#[tactic(auto, using(crate::proofs::Fields::all_zero_lem, crate::proofs::Fields::not_zero))]
+#[tactic(auto, using(crate::proofs::Fields::all_zero, crate::proofs::Fields::not_zero))]
 fn is_zero(field: &[u8]) -> bool
     ensures { result ≡ eqb (size (from_right field.now)) 0 }
 {
-    let n = field.len();
-    for j in 0..n {
-        if field[n - 1 - j] % 16 != 0 {
+    for j in (0..field.len()).rev() {
+        if field[j] % 16 != 0 {
             return false;
         }
     }
@@ -184,11 +183,10 @@ fn columns<const NINES: bool>(field: &mut [u8], second: &[u8], start: usize) -> 
     ensures value { (result ≡ sum_of NINES start field.old second.now / 10 ^ length field.old) × (result ≤ 1) }
 {
     let mut over = start;
-    let n = field.len();
-    for j in 0..n {
-        let t = field[n - 1 - j] as usize + taken::<NINES>(second[n - 1 - j]) + over;
+    for j in (0..field.len()).rev() {
+        let t = field[j] as usize + taken::<NINES>(second[j]) + over;
         over = carried(t);
-        field[n - 1 - j] = (t - 10 * over) as u8;
+        field[j] = (t - 10 * over) as u8;
     }
     over
 }
@@ -201,14 +199,13 @@ fn run_on<const NINES: bool>(field: &mut [u8], start: usize) -> usize
     ensures value { result ≡ alone NINES start field.old / 10 ^ length field.old }
 {
     let mut over = start;
-    let n = field.len();
-    for j in 0..n {
+    for j in (0..field.len()).rev() {
         if over == still::<NINES>() {
             return over;
         }
-        let t = field[n - 1 - j] as usize + taken::<NINES>(0) + over;
+        let t = field[j] as usize + taken::<NINES>(0) + over;
         over = carried(t);
-        field[n - 1 - j] = (t - 10 * over) as u8;
+        field[j] = (t - 10 * over) as u8;
     }
     over
 }
@@ -231,11 +228,10 @@ fn turned(field: &mut [u8])
     ensures { field.new ≡ holding field.old false (round_of field.old) }
 {
     let mut over = 1;
-    let n = field.len();
-    for j in 0..n {
-        let t = 240 + taken::<true>(field[n - 1 - j]) + over;
+    for j in (0..field.len()).rev() {
+        let t = 240 + taken::<true>(field[j]) + over;
         over = carried(t);
-        field[n - 1 - j] = (t - 10 * over) as u8;
+        field[j] = (t - 10 * over) as u8;
     }
 }
 
