@@ -24,6 +24,7 @@ fn half_moved(q: u8, x: u8, y: u8) -> u8
     }
 }
 
+/// MVX: a half of operand 2's byte is put in a half of operand 1's; Q tells which. It stops, and changes nothing, where an operand lies outside storage.
 #[tactic(auto, unfolding(manual::specs::Edit::mvx, manual::specs::Programs::unless, manual::specs::Programs::and_then, manual::specs::Programs::val, manual::specs::Programs::fin, manual::specs::Step::did, manual::specs::Formats::reach))]
 pub fn mvx(m: &mut Machine, s: &mut [u8], f: Fields) -> Result<(), Stop>
     ensures { Does (mvx f) m.old s.old result m.new s.new }
@@ -39,7 +40,7 @@ pub fn mvx(m: &mut Machine, s: &mut [u8], f: Fields) -> Result<(), Stop>
 
 // ---- ED
 
-// The count of 20s among the n bytes whose rightmost is at a.
+// The count of 20s among the n bytes whose rightmost is at a. By address, as `put_edited` takes the same pattern (a slice here alone is no plainer).
 #[tactic(auto, using(crate::proofs::Taking::left_whole, crate::proofs::Taking::counts_none))]
 fn count_20(s: &[u8], a: usize, n: usize) -> usize
     requires { (a < length s.now) × (n ≤ a + 1) }
@@ -129,6 +130,7 @@ fn put_edited(s: &mut [u8], a: usize, n: usize, d: &[u8])
     }
 }
 
+/// ED: each 20 of the pattern, operand 1, takes the next digit of operand 2, both from the right; the status tells the order of operand 2's value. It stops, and changes nothing, where the pattern, or operand 2 of as many bytes as there are 20s, lies outside storage, and then where a digit is above 9.
 #[tactic(auto, unfolding(manual::specs::Edit::ed, manual::specs::Programs::unless, manual::specs::Programs::val, manual::specs::Step::did, manual::specs::Formats::reach), using(crate::proofs::Rules::source_in))]
 pub fn ed(m: &mut Machine, s: &mut [u8], f: Fields) -> Result<(), Stop>
     ensures { Does (ed f) m.old s.old result m.new s.new }
@@ -183,6 +185,7 @@ fn scan_right(s: &mut [u8], a: usize, n: usize, v: u8) -> usize
     found
 }
 
+/// ITC: from operand 1's left on, bytes become operand 2's byte until one of F1 to F9 is met; ARR takes its address, or the end's. It stops, and changes nothing, where an operand lies outside storage.
 #[tactic(auto, unfolding(manual::specs::Edit::itc, manual::specs::Programs::unless, manual::specs::Programs::and_then, manual::specs::Programs::val, manual::specs::Step::did, manual::specs::Formats::reach, manual::specs::Formats::reach_right))]
 pub fn itc(m: &mut Machine, s: &mut [u8], f: Fields) -> Result<(), Stop>
     ensures { Does (itc f) m.old s.old result m.new s.new }

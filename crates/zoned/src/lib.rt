@@ -106,7 +106,7 @@ fn put_zones(part: &mut [u8])
     }
 }
 
-// The same over a field, its last 16 or 8, where the columns start, and as many first: a byte that gets it twice is the same.
+// The same over a field, its last 16 or 8, where the columns start, and as many first: a byte that gets it twice is the same. A walk shared with `has_bad` would take a closure for each (no plainer).
 fn put_zone(field: &mut [u8])
     requires { length field.old ≤ 31 }
     ensures { Zones field.old field.new }
@@ -125,7 +125,7 @@ fn put_zone(field: &mut [u8])
     put_zones(field);
 }
 
-// Whether the digits are all zero: mostly the rightmost tells.
+// Whether the digits are all zero: mostly the rightmost tells. A loop, since `.all()` compiles to a slower one.
 #[tactic(auto, using(crate::proofs::Fields::all_zero, crate::proofs::Fields::not_zero))]
 fn is_zero(field: &[u8]) -> bool
     ensures { result ≡ eqb (size (from_right field.now)) 0 }
@@ -276,7 +276,7 @@ fn sum(field: &mut [u8], second: &[u8], minus: bool, status: u8) -> u8
     finish(field, minus, over == 1, status)
 }
 
-// Of two signs the smaller size is taken off the larger, whose sign stays. Without a carry operand 2's is the larger, and the columns hold ten to the field's length less the result.
+// Of two signs the smaller size is taken off the larger, whose sign stays. Not one with `sum`, where a carry is the overflow (no plainer): here without a carry operand 2's is the larger, and the columns hold ten to the field's length less the result.
 fn difference(field: &mut [u8], second: &[u8], minus: bool, status: u8) -> u8
     requires { Operands field.old second.now }
     ensures { LeftIn field.old status (signed_sum minus (not minus) field.old second.now) result field.new }
@@ -291,7 +291,7 @@ fn difference(field: &mut [u8], second: &[u8], minus: bool, status: u8) -> u8
 
 // ---- the instructions, where nothing stands in the way
 
-// ZAZ puts operand 2's value in operand 1.
+// ZAZ puts the second field's value in the first.
 fn put_value(field: &mut [u8], second: &[u8], status: u8) -> u8
     requires { Fits field.old second.now }
     ensures { LeftIn field.old status (value (from_right second.now)) result field.new }
@@ -303,7 +303,7 @@ fn put_value(field: &mut [u8], second: &[u8], status: u8) -> u8
     finish(field, is_minus(second), false, status)
 }
 
-// AZ adds operand 2, SZ (LESS) takes it off.
+// AZ adds the second field's value, and where LESS SZ takes it off.
 fn combined<const LESS: bool>(field: &mut [u8], second: &[u8], status: u8) -> u8
     requires fits { Fits field.old second.now }
     requires digits { all_digits (from_right field.old) ≡ true }
@@ -318,7 +318,7 @@ fn combined<const LESS: bool>(field: &mut [u8], second: &[u8], status: u8) -> u8
     difference(field, second, m1, status)
 }
 
-// Operand 2 as it was: an overlap must not change a digit before it is taken.
+// Operand 2 as it was: an overlap must not change a digit before it is taken. An array and not a Vec: the library has no heap.
 fn copied(second: &[u8]) -> [u8; 16]
     requires { length second.now ≤ 16 }
     ensures { take (length second.now) result ≡ second.now }
@@ -328,6 +328,7 @@ fn copied(second: &[u8]) -> [u8; 16]
     copy
 }
 
+// ZAZ with its operands in storage.
 fn put_second(s: &mut [u8], f: Fields, status: u8) -> u8
     requires { Ready s.old f.q f.a1 f.a2 }
     ensures { Left s.old (l1 f.q) f.a1 status (value (bytes_of s.old (l2 f.q) f.a2)) result s.new }
@@ -338,6 +339,7 @@ fn put_second(s: &mut [u8], f: Fields, status: u8) -> u8
     put_value(&mut s[a + 1 - n..a + 1], &copy[..k], status)
 }
 
+// The same of AZ and SZ: one function with a closure for the last line is no plainer.
 fn combine_second<const LESS: bool>(s: &mut [u8], f: Fields, status: u8) -> u8
     requires ready { Ready s.old f.q f.a1 f.a2 }
     requires a1_value { all_digits (bytes_of s.old (l1 f.q) f.a1) ≡ true }
@@ -351,7 +353,7 @@ fn combine_second<const LESS: bool>(s: &mut [u8], f: Fields, status: u8) -> u8
 
 // ---- the leaves
 
-/// ZAZ: operand 2's value is put in operand 1.
+/// ZAZ: operand 2's value is put in operand 1. It stops, and changes nothing, where an operand lies outside storage, and then where operand 2 has a digit above 9.
 pub fn zaz(m: &mut Machine, s: &mut [u8], f: Fields) -> Result<(), Stop>
     ensures { Does (zaz f) m.old s.old result m.new s.new }
 {
@@ -361,7 +363,7 @@ pub fn zaz(m: &mut Machine, s: &mut [u8], f: Fields) -> Result<(), Stop>
     Ok(())
 }
 
-/// AZ, and SZ where LESS: operand 2's value is added to operand 1, or taken off it.
+/// AZ, and where LESS SZ: operand 2's value is added to operand 1, or taken off it. It stops, and changes nothing, where an operand lies outside storage, and then where operand 2 or operand 1 has a digit above 9.
 pub fn combine<const LESS: bool>(m: &mut Machine, s: &mut [u8], f: Fields) -> Result<(), Stop>
     ensures { Does (cond LESS sz az f) m.old s.old result m.new s.new }
 {
