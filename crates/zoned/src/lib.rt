@@ -156,7 +156,7 @@ fn taken<const NINES: bool>(b: u8) -> usize
     if NINES { 9 - v } else { v }
 }
 
-// What a column carries on, its digits on top of the zone's 240: a comparison, since a division would make the next column wait.
+// What a column carries on, its digits on top of the zone's 240: a comparison, since a division would make the next column wait. A number and not a bool, since it is added to the next column and, ten times, taken off this one (a bool is no plainer).
 fn carried(t: usize) -> usize
     requires { t < 260 }
     ensures { result ≡ (t - 240) / 10 }
