@@ -1,4 +1,4 @@
-// MVX, ED and ITC: each does what its rule says.
+//! MVX, ED and ITC: each does what its rule says.
 #![tactic(auto)]
 
 ghost use Rattle.std.specs.Prelude.{◌≡◌, ◌+◌, ◌<◌, ◌≤◌, length, take, eqb};
@@ -76,7 +76,7 @@ fn take(s: &[u8], a: usize, d: &mut [u8])
     }
 }
 
-// A digit above 9 stops with 8.
+// A digit above 9 stops with 8. Not the test of `zoned`, which goes in blocks of 16 and 8 up to 31 digits: here there may be 256, and ED is seldom.
 #[tactic(auto, unfolding(manual::specs::Values::digits_of), using(crate::proofs::Taking::digit_refused, crate::proofs::Taking::digit_passed, crate::proofs::Taking::digits_done))]
 fn digits_of(d: &[u8]) -> Result<(), Stop>
     ensures { result ≡ digits_of d.now }
@@ -157,10 +157,7 @@ pub fn ed(m: &mut Machine, s: &mut [u8], f: Fields) -> Result<(), Stop>
 fn ends_scan(b: u8) -> bool
     ensures { result ≡ ends_scan b }
 {
-    if b < 0xF1 {
-        return false;
-    }
-    b <= 0xF9
+    matches!(&b, 0xF1..=0xF9)
 }
 
 // From the left, bytes become v until one of F1 to F9 is met: yields its address or the end. By address: the address is what it yields.

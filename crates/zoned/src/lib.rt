@@ -1,4 +1,4 @@
-// ZAZ, AZ and SZ: each does what its rule says. A zoned field is a slice of storage, its units last.
+//! ZAZ, AZ and SZ: each does what its rule says. A zoned field is a slice of storage, its units last.
 #![tactic(auto)]
 
 ghost use Rattle.std.specs.Prelude.{◌≡◌, ◌↔◌, true, false, cond, not, ◌+◌, ◌-◌, ◌*◌, ◌/◌, ◌%◌, ◌^◌, ◌<◌, ◌≤◌, eqb, ◌+ℤ◌, ◌-ℤ◌, length, take};
@@ -48,7 +48,8 @@ fn some_bad(part: &[u8]) -> bool
     bad
 }
 
-// The same of a field: its first 16 or 8 and as many last, since a constant count leaves no rest that goes one by one.
+// The same of a field: its first 16 or 8 and as many last, since a constant count leaves no rest that goes one by one. The length, 31 at most, is a clause
+// here and in two more: a slice has none in its type, and a struct round it would be no plainer.
 fn has_bad(field: &[u8]) -> bool
     requires { length field.now ≤ 31 }
     ensures { (result ≡ false) ↔ Digits field.now }
@@ -174,7 +175,8 @@ fn still<const NINES: bool>() -> usize
     if NINES { 1 } else { 0 }
 }
 
-// Adds the digits of a field of the same length, column by column from the right. The zones are F, so that a column is 240 and its digits.
+// Adds the digits of a field of the same length, column by column from the right. The zones are F, so that a column is 240 and its digits. `start`, 0 or 1,
+// is a clause here and in two more: a type for it would be taken apart in each (no plainer).
 fn columns<const NINES: bool>(field: &mut [u8], second: &[u8], start: usize) -> usize
     requires operands { Operands field.old second.now }
     requires same_length { length second.now ≡ length field.old }
