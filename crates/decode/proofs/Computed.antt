@@ -1,10 +1,5 @@
 -- A test that is computed for every number below a bound holds of each. What carries it: induction on the bound.
-use mathlib.Core.Path.{sym, subst}
-use mathlib.Core.Bool.{Bool, true, false, ◌&&◌}
-use mathlib.Core.Logic.{⊎_elim}
-use Prim.Native.Nat.{ℕ, zero, suc, ◌<◌}
-use native.Mathlib.Nat.{le_of_suc-le-suc, not-suc-le-zero, eq-or-lt_of_le}
-use lib.Dec.{T}
+use Rattle.std.proofs.Common.{sym, subst, Bool, true, false, ◌&&◌, ⊎_elim, ℕ, zero, suc, ◌<◌, le_of_suc-le-suc, not-suc-le-zero, eq-or-lt_of_le, T}
 
 both : (a b : Bool) → T (a && b) → T a × T b
 both true b t = (tt, t)

@@ -1,7 +1,6 @@
 -- Decoding over the code is decoding over storage. What carries it: the k-th byte from IAR is the code's k-th.
-use Rattle.std.proofs.Common.{◌≡◌, ℕ, ◌+◌, ◌-◌, ◌/◌, cond, ltb, List, length, get_or, drop, refl, ap, Err, Option, Some, None}
+use Rattle.std.proofs.Common.{◌≡◌, ℕ, ◌+◌, ◌-◌, ◌/◌, cond, ltb, List, length, get_or, drop, refl, ap, Err, Option, Some, None, get_or-drop, length-drop}
 use Rattle.std.proofs.Math.Path.{fun_ext}
-use Rattle.std.proofs.lemmas.List.{get_or-drop, length-drop}
 use Rattle.manual.specs.declared.Operation.{Operation}
 use Rattle.manual.specs.declared.Form.{Form}
 use Rattle.manual.specs.Formats.{form_of, operation_of}

@@ -1,9 +1,5 @@
 -- What the last arm of a match on a byte is told: any test that all the other bytes pass. What carries it: the test is computed of all 256.
-use mathlib.Core.Path.{◌≡◌}
-use mathlib.Core.Bool.{Bool, true, false, ◌||◌}
-use mathlib.Core.List.{List, [], ◌∷◌}
-use Prim.Native.Nat.{ℕ, ◌<◌}
-use lib.Dec.{T, eqb, eqb→eq}
+use Rattle.std.proofs.Common.{◌≡◌, Bool, true, false, ◌||◌, List, [], ◌∷◌, ℕ, ◌<◌, T, eqb, eqb→eq}
 use Rattle.decode.proofs.Computed.{all_below, all_at}
 
 second : (a b : Bool) → T (a || b) → (T a → ⊥) → T b

@@ -1,11 +1,5 @@
 -- The opcodes that the decoder doesn't name one by one: of two addresses, or naming nothing.
-use Rattle.std.specs.Prelude.{Option, Some, None}
-use mathlib.Core.Path.{◌≡◌, refl}
-use mathlib.Core.Bool.{Bool, true, false, true≢false}
-use mathlib.Core.List.{List, [], ◌∷◌}
-use Prim.Native.Nat.{ℕ, ◌/◌, ◌%◌, ◌<◌}
-use lib.Dec.{T}
-use lib.ListN.{get_or}
+use Rattle.std.proofs.Common.{Option, Some, None, ◌≡◌, refl, Bool, true, false, true≢false, List, [], ◌∷◌, ℕ, ◌/◌, ◌%◌, ◌<◌, T, get_or}
 use Rattle.manual.specs.declared.Group.{Group}
 use Rattle.manual.specs.declared.Group.TheVariants.{TwoAddress, OneAddress, Branch, Jump}
 use Rattle.manual.specs.Formats.{two_address, form_of, named_of, operation_of, allowed}

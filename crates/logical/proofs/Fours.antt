@@ -1,13 +1,6 @@
 -- Four columns of ALC or SLC at once. What carries it: the result is the number of a sum or difference, and its bytes are that number's.
-use mathlib.Core.Path.{◌≡◌, refl, sym, ◌∙◌, ap}
-use mathlib.Core.Bool.{Bool, true, false, ◌&&◌}
-use mathlib.Core.List.{List}
-use Prim.Native.Nat.{ℕ, zero, suc, ◌+◌, ◌-◌, ◌*◌, ◌/◌, ◌%◌, ◌<◌, ◌≤◌}
-use native.Mathlib.Nat.{add-zero, add-suc, sub-add-eq, sub-zero}
-use native.Mathlib.Omega.{arith}
-use lib.Dec.{eqb}
-use lib.ListN.{length, get_or, set}
-use lib.Seq.{get_or-set_same}
+use Rattle.std.proofs.Common.{◌≡◌, refl, sym, ◌∙◌, ap, Bool, true, false, ◌&&◌, List, ℕ, zero, suc, ◌+◌, ◌-◌, ◌*◌, ◌/◌, ◌%◌, ◌<◌, ◌≤◌, add-zero, add-suc, arith, eqb, length, get_or, set, get_or-set_same}
+use Rattle.std.proofs.Math.Nat.{sub-add-eq, sub-zero}
 use Rattle.manual.specs.declared.Columns.{Columns}
 use Rattle.manual.specs.Places.{State}
 use Rattle.manual.specs.Programs.{Prog, val, fin}

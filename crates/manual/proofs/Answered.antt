@@ -1,10 +1,6 @@
 -- A step stops exactly where the order of the stops says, with that stop, and executes where nothing stands in its way.
 -- What carries it: how the stop goes through each form of a program, then one line an operation.
-use Rattle.std.specs.Prelude.{Ok, Err}
-use mathlib.Core.Path.{◌≡◌, refl}
-use mathlib.Core.Bool.{Bool, true, false, cond}
-use mathlib.Core.List.{List}
-use Prim.Native.Nat.{ℕ}
+use Rattle.std.proofs.Common.{Ok, Err, ◌≡◌, refl, Bool, true, false, cond, List, ℕ}
 use Rattle.manual.specs.declared.Machine.{Machine}
 use Rattle.manual.specs.declared.Stop.{Stop}
 use Rattle.manual.specs.declared.Answer.{Answer}

@@ -1,12 +1,5 @@
 -- The limits of the numbers that a machine, a storage and an instruction hold, and programs that keep them. What carries it: one induction on such a program.
-use Rattle.std.specs.Prelude.{Ok, Err}
-use mathlib.Core.Path.{◌≡◌, ◌∙◌}
-use mathlib.Core.Bool.{Bool, true, false, cond, ◌&&◌}
-use mathlib.Core.List.{List}
-use Prim.Native.Nat.{ℕ, ◌+◌, ◌<◌}
-use native.Mathlib.Omega.{arith}
-use lib.ListN.{length, get_or, length-set}
-use lib.Dec.{eqb, ltb, leb}
+use Rattle.std.proofs.Common.{Ok, Err, ◌≡◌, ◌∙◌, Bool, true, false, cond, ◌&&◌, List, ℕ, ◌+◌, ◌<◌, arith, length, get_or, length-set, eqb, ltb, leb}
 use Rattle.manual.specs.declared.Machine.{Machine}
 use Rattle.manual.specs.declared.Register.TheVariants.{Arr, Xr1, Xr2, Work}
 use Rattle.manual.specs.declared.Stop.{Stop}

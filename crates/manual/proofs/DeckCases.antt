@@ -1,10 +1,6 @@
 -- Small decks, computed: each number of the reader occurs, and each of the writer; and a deck written and read again.
 -- What carries it: the definitions compute.
-use Rattle.std.specs.Prelude.{Ok}
-use Prim.Native.Nat.{ℕ}
-use mathlib.Core.Path.{◌≡◌, refl}
-use mathlib.Core.List.{List, [], ◌∷◌, ◌++◌}
-use lib.ListN.{replicate, length}
+use Rattle.std.proofs.Common.{Ok, ℕ, ◌≡◌, refl, List, [], ◌∷◌, ◌++◌, replicate, length}
 use Rattle.manual.specs.declared.Machine.{Machine}
 use Rattle.manual.specs.Numbers.{read_number, write_told}
 use Rattle.manual.specs.TheMachine.{size_allowed, status_allowed}

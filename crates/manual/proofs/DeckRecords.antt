@@ -1,14 +1,6 @@
 -- What is known of a record that was not refused, and that such a record is not refused. What carries it: the tests, one by one.
-use Rattle.std.specs.Prelude.{Ok, Err}
-use Prim.Native.Nat.{ℕ, suc, ◌+◌, ◌≤◌, ◌<◌, ◌*◌, ◌/◌}
-use mathlib.Core.Bool.{Bool, true, false, cond, not}
-use mathlib.Core.List.{List}
-use mathlib.Core.Logic.{◌⊎◌, inl, inr, ⊎_elim}
-use mathlib.Core.Path.{◌≡◌, refl, sym, ◌∙◌}
-use native.Mathlib.Omega.{arith}
-use borrow.Author.Tests.{eq-eqb, eqb-true, eqb-false, leb-true, le-leb, ltb-true, lt-ltb, not-true}
-use lib.Dec.{eqb, leb, ltb}
-use lib.ListN.{length, get_or, take, drop}
+use Rattle.std.proofs.Common.{Ok, Err, ℕ, suc, ◌+◌, ◌≤◌, ◌<◌, ◌*◌, ◌/◌, Bool, true, false, cond, not, List, ◌⊎◌, inl, inr, ⊎_elim, ◌≡◌, refl, sym, ◌∙◌, arith, eq-eqb, eqb-true, leb-true, le-leb, ltb-true, lt-ltb, eqb, leb, ltb, length, get_or, take, drop}
+use Rattle.std.proofs.lemmas.Bool.{eqb-false, not-true}
 use Rattle.manual.specs.declared.DeckFault.{DeckFault}
 use Rattle.manual.specs.declared.DeckFault.TheVariants.{BytesAfterEnd}
 use Rattle.manual.specs.TheMachine.{status_allowed}

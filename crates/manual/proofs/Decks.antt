@@ -1,17 +1,7 @@
 -- A machine written as a deck and read again is that machine; an accepted deck read and written again is that deck; and how long a deck is.
 -- What carries it: one induction on the pages of a storage, and one on the records of an accepted deck.
-use Rattle.std.specs.Prelude.{Ok, Err}
-use Prim.Native.Nat.{ℕ, zero, suc, ◌+◌, ◌≤◌, ◌<◌, ◌-◌, ◌*◌, ◌/◌, ◌%◌, pred}
-use mathlib.Core.Bool.{Bool, true, false, cond}
-use mathlib.Core.List.{List, [], ◌∷◌, ◌++◌, append_assoc}
-use mathlib.Core.Logic.{⊎_elim}
-use mathlib.Core.Path.{◌≡◌, refl, ap, sym, ◌∙◌}
-use native.Mathlib.Nat.{add-zero, zero-add, div-add-mod'}
-use native.Mathlib.Omega.{arith}
-use borrow.Author.Tests.{eqb-true, leb-true, le-leb, ltb-true, lt-ltb, eq-eqb}
-use lib.Dec.{eqb, leb, lit<}
-use lib.ListN.{length, get_or, take, drop, length-append, length-drop, take-append-drop, replicate}
-use lib.Seq.{length-take-le, take_at, drop_at, drop-cons, take-append_seam, drop-append_seam, get_or-drop}
+use Rattle.std.proofs.Common.{Ok, Err, ℕ, zero, suc, ◌+◌, ◌≤◌, ◌<◌, ◌-◌, ◌*◌, ◌/◌, ◌%◌, pred, Bool, true, false, cond, List, [], ◌∷◌, ◌++◌, append_assoc, ⊎_elim, ◌≡◌, refl, ap, sym, ◌∙◌, add-zero, zero-add, div-add-mod', arith, eqb-true, leb-true, le-leb, ltb-true, lt-ltb, eq-eqb, eqb, leb, lit<, length, get_or, take, drop, length-append, length-drop, take-append-drop, replicate, length-take-le, take_at, drop_at, drop-cons, get_or-drop}
+use Rattle.std.proofs.Math.Seq.{take-append_seam, drop-append_seam}
 use Rattle.manual.specs.declared.Machine.{Machine}
 use Rattle.manual.specs.declared.DeckFault.{DeckFault}
 use Rattle.manual.specs.declared.WriteFault.{WriteFault}

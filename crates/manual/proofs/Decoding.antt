@@ -1,11 +1,5 @@
 -- What decoding finds: an instruction's Q and R bytes are those after its opcode, and a stop is 4, 5 or 6. What carries it: the tests of decoding, one by one.
-use Rattle.std.specs.Prelude.{Ok, Err, Option, Some, None}
-use mathlib.Core.Path.{◌≡◌, refl}
-use mathlib.Core.Bool.{Bool, true, false, cond}
-use mathlib.Core.List.{List}
-use Prim.Native.Nat.{ℕ, ◌+◌, ◌-◌}
-use lib.ListN.{length, get_or}
-use lib.Dec.{leb, ltb}
+use Rattle.std.proofs.Common.{Ok, Err, Option, Some, None, ◌≡◌, refl, Bool, true, false, cond, List, ℕ, ◌+◌, ◌-◌, length, get_or, leb, ltb}
 use Rattle.manual.specs.declared.Form.{Form}
 use Rattle.manual.specs.declared.Operation.{Operation}
 use Rattle.manual.specs.declared.Stop.TheVariants.{CutShort, OpcodeUnknown, QRefused, OperandOutside, DigitRefused, Supervisor}

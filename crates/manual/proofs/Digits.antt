@@ -1,9 +1,7 @@
 -- Decimal digits and powers of ten: a number's digits from the right, and the number that is cut to them. What carries it: division taken apart by ten.
-use mathlib.Core.Path.{◌≡◌, sym, ◌∙◌, ap}
-use Prim.Native.Nat.{ℕ, zero, suc, ◌+◌, ◌*◌, ◌/◌, ◌%◌, ◌^◌, ◌≤◌, ◌<◌}
-use native.Mathlib.Omega.{arith}
-use native.Mathlib.Nat.{pow-suc, pow-succ', div-one, div-div-eq-div-mul, one-le-pow}
-use lib.Arith.{mod-mul}
+use Rattle.std.proofs.Common.{◌≡◌, sym, ◌∙◌, ap, ℕ, zero, suc, ◌+◌, ◌*◌, ◌/◌, ◌%◌, ◌^◌, ◌≤◌, ◌<◌, arith, pow-suc, div-one}
+use Rattle.std.proofs.Math.Nat.{pow-succ', div-div-eq-div-mul, one-le-pow}
+use Rattle.std.proofs.Math.Arith.{mod-mul}
 
 pub ten_pos : (n : ℕ) → 0 < 10 ^ n
 ten_pos n = one-le-pow n 10 (omega arith)

@@ -1,14 +1,7 @@
 -- A step's rule reads a place if and only if document 01's list has it: no more, no less, for every instruction and stop.
 -- What carries it: how reading goes through each form of a program, then one line an operation.
-use Rattle.std.specs.Prelude.{Ok, Err, Option, Some, None}
-use mathlib.Core.Path.{◌≡◌, refl, ap, sym, ◌∙◌}
-use mathlib.Core.Bool.{Bool, true, false, cond, ◌||◌, or-false, or_assoc}
-use mathlib.Core.List.{List, [], ◌∷◌, ◌++◌}
-use Prim.Native.Nat.{ℕ, zero, suc, ◌+◌, ◌-◌, ◌/◌, ◌<◌, min}
-use native.Mathlib.Omega.{arith}
-use lib.ListN.{length, get_or, set}
-use lib.Seq.{get_or-set_other}
-use lib.Dec.{leb, ltb}
+use Rattle.std.proofs.Common.{Ok, Err, Option, Some, None, ◌≡◌, refl, ap, sym, ◌∙◌, Bool, true, false, cond, ◌||◌, List, [], ◌∷◌, ◌++◌, ℕ, zero, suc, ◌+◌, ◌-◌, ◌/◌, ◌<◌, min, arith, length, get_or, set, get_or-set_other, leb, ltb}
+use Rattle.std.proofs.Math.Bool.{or-false, or_assoc}
 use Rattle.manual.specs.declared.Machine.{Machine}
 use Rattle.manual.specs.declared.Stop.TheVariants.{CutShort, QRefused}
 use Rattle.manual.specs.declared.Operation.{Operation}

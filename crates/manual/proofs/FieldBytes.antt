@@ -1,15 +1,7 @@
 -- Laws on fields: the bytes inside and outside, their number, and storage with a field put in it. What carries it: induction on the count of bytes, from the right.
-use mathlib.Core.Path.{◌≡◌, refl, sym, ◌∙◌, ap}
-use mathlib.Core.List.{List, [], ◌∷◌}
-use mathlib.Core.Logic.{◌⊎◌, inl, inr, ⊎_elim, ◌↔◌}
-use Prim.Native.Nat.{ℕ, zero, suc, ◌+◌, ◌-◌, ◌*◌, ◌^◌, ◌≤◌, ◌<◌}
-use native.Mathlib.Decide.{dec_lt, dec_le}
-use native.Mathlib.Nat.{eq-or-lt_of_le, sub-zero, pow-succ'}
-use native.Mathlib.Numerals.{add-one}
-use native.Mathlib.Omega.{arith}
-use lib.Dec.{lit<}
-use lib.ListN.{length, get_or, set, length-set}
-use lib.Seq.{get_or-set_same, get_or-set_other, ext_get_or}
+use Rattle.std.proofs.Common.{◌≡◌, refl, sym, ◌∙◌, ap, List, [], ◌∷◌, ◌⊎◌, inl, inr, ⊎_elim, ◌↔◌, ℕ, zero, suc, ◌+◌, ◌-◌, ◌*◌, ◌^◌, ◌≤◌, ◌<◌, eq-or-lt_of_le, add-one, arith, lit<, length, get_or, set, length-set, get_or-set_same, get_or-set_other, ext_get_or}
+use Rattle.std.proofs.Math.Decide.{dec_lt, dec_le}
+use Rattle.std.proofs.Math.Nat.{sub-zero, pow-succ'}
 use Rattle.manual.specs.Values.{bytes_of, number}
 
 -- bytes: each of them is below 256

@@ -1,14 +1,6 @@
 -- Every operation, and the step as a whole, keeps the numbers below their limits. What carries it: `Keeps` through each part of a rule, then one operation a time.
-use Rattle.std.specs.Prelude.{Ok, Err, Option, Some, None}
-use mathlib.Core.Bool.{Bool, true, false, cond}
-use mathlib.Core.List.{List, [], ◌∷◌}
-use Prim.Native.Nat.{ℕ, zero, suc, ◌+◌, ◌-◌, ◌*◌, ◌/◌, ◌%◌, ◌<◌}
-use native.Mathlib.Omega.{arith}
-use native.Mathlib.Nat.{lt_of_le_of_lt}
-use lib.ListN.{get_or, drop}
-use lib.Dec.{eqb, ltb, leb, lit<}
-use lib.IntN.{ℤ, ◌+ℤ◌, ◌-ℤ◌}
-use lib.Bits.{bit_and, or_lt, and_le_l}
+use Rattle.std.proofs.Common.{Ok, Err, Option, Some, None, Bool, true, false, cond, List, [], ◌∷◌, ℕ, zero, suc, ◌+◌, ◌-◌, ◌*◌, ◌/◌, ◌%◌, ◌<◌, arith, lt_of_le_of_lt, get_or, drop, eqb, ltb, leb, lit<, ℤ, ◌+ℤ◌, ◌-ℤ◌, bit_and}
+use Rattle.std.proofs.lemmas.Nat.{or_lt, and_le_l}
 use Rattle.manual.specs.declared.Stop.TheVariants.{CutShort, OpcodeUnknown, QRefused, Supervisor}
 use Rattle.manual.specs.declared.Operation.{Operation}
 use Rattle.manual.specs.declared.Operation.TheVariants.{Zaz, Az, Sz, Mvx, Ed, Itc, Mvc, Clc, Alc, Slc, St, L, A, S, Tbn, Tbf, Sbn, Sbf, Mvi, Cli, Sli, Bc, Jc, La, Svc}

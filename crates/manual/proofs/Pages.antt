@@ -1,15 +1,7 @@
 -- Bytes put over others, zeros, and the pages of a storage with their records. What carries it: lists are cut where one of their parts ends.
-use Prim.Native.Nat.{ℕ, zero, suc, ◌+◌, ◌≤◌, ◌<◌, ◌-◌, ◌*◌}
-use mathlib.Core.Bool.{Bool, true, false, cond}
-use mathlib.Core.List.{List, [], ◌∷◌, ◌++◌, append_assoc, append-nil}
-use mathlib.Core.Path.{◌≡◌, refl, ap, sym, ◌∙◌}
-use native.Mathlib.Nat.{add-zero, zero-add, add_assoc}
-use native.Mathlib.Numerals.{add-one}
-use native.Mathlib.Omega.{arith}
-use borrow.Author.Tests.{eqb-true}
-use lib.Dec.{eqb}
-use lib.ListN.{length, set, take, drop, length-append, length-drop, take-append-drop, replicate, length-replicate, replicate-append-replicate}
-use lib.Seq.{take-length, length-take-le, set_split, take_at, drop-drop, drop-append-add, drop_at, paste}
+use Rattle.std.proofs.Common.{ℕ, zero, suc, ◌+◌, ◌≤◌, ◌<◌, ◌-◌, ◌*◌, Bool, true, false, cond, List, [], ◌∷◌, ◌++◌, append_assoc, append-nil, ◌≡◌, refl, ap, sym, ◌∙◌, add-zero, zero-add, add_assoc, add-one, arith, eqb-true, eqb, length, set, take, drop, length-append, length-drop, take-append-drop, replicate, length-take-le, take_at, drop-drop, drop_at}
+use Rattle.std.proofs.lemmas.List.{length-replicate, replicate-append-replicate, set_split}
+use Rattle.std.proofs.Math.Seq.{take-length, drop-append-add, paste}
 use Rattle.manual.specs.Deck.{all_zero, page_record, page_records, over}
 use Rattle.manual.proofs.Running.{and_both}
 

@@ -1,8 +1,6 @@
 -- A run that stopped stands before the instruction that stops: one step from where it ended gives the same answer, so the table of a step's numbers is the run's too.
 -- What carries it: a stop keeps machine and storage.
-use mathlib.Core.Path.{◌≡◌, refl, ap, ◌∙◌}
-use mathlib.Core.List.{List}
-use Prim.Native.Nat.{ℕ, zero, suc}
+use Rattle.std.proofs.Common.{◌≡◌, refl, ap, ◌∙◌, List, ℕ, zero, suc}
 use Rattle.manual.specs.declared.Machine.{Machine}
 use Rattle.manual.specs.declared.Answer.{Answer}
 use Rattle.manual.specs.declared.Answer.TheVariants.{Executed, Refused, Stopped}

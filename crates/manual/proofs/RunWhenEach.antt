@@ -1,14 +1,5 @@
 -- A run gives a number exactly when the table's row for it holds. What carries it: the first step that doesn't give 0, if there is one below the budget.
-use mathlib.Core.Path.{◌≡◌, refl, ap, sym, ◌∙◌, subst}
-use mathlib.Core.Bool.{Bool, true, false}
-use mathlib.Core.List.{List}
-use mathlib.Core.Logic.{◌↔◌}
-use Prim.Native.Nat.{ℕ, zero, suc, ◌≤◌, ◌<◌}
-use native.Mathlib.Omega.{arith}
-use native.Mathlib.Numerals.{add-one}
-use lib.ListN.{length}
-use lib.Dec.{ltb}
-use borrow.Author.Tests.{ltb-true, ltb-false, lt-ltb}
+use Rattle.std.proofs.Common.{◌≡◌, refl, ap, sym, ◌∙◌, subst, Bool, true, false, List, ◌↔◌, ℕ, zero, suc, ◌≤◌, ◌<◌, arith, add-one, length, ltb, ltb-true, ltb-false, lt-ltb}
 use Rattle.manual.specs.declared.Machine.{Machine}
 use Rattle.manual.specs.declared.Answer.TheVariants.{Executed}
 use Rattle.manual.specs.TheMachine.{size_allowed, budget_allowed, status_allowed}

@@ -1,10 +1,5 @@
 -- Document 01's example of the deck runner, computed: the whole line. What carries it: the run stops at its second instruction, so a run of 2 is the run of a million.
-use Rattle.std.specs.Prelude.{Ok}
-use Prim.Native.Nat.{ℕ}
-use native.Mathlib.Omega.{arith}
-use mathlib.Core.Path.{◌≡◌, refl, ◌∙◌}
-use mathlib.Core.List.{List, [], ◌∷◌, ◌++◌}
-use lib.ListN.{replicate}
+use Rattle.std.proofs.Common.{Ok, ℕ, arith, ◌≡◌, refl, ◌∙◌, List, [], ◌∷◌, ◌++◌, replicate}
 use Rattle.manual.specs.declared.Machine.{Machine}
 use Rattle.manual.specs.declared.Answer.TheVariants.{Stopped}
 use Rattle.manual.specs.declared.Stop.TheVariants.{Supervisor}

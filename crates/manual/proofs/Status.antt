@@ -1,11 +1,6 @@
 -- The status: its order is set, a bit goes on or off, what isn't named stays, and below 64 it stays there. What carries it: each bit is told by a division.
-use mathlib.Core.Path.{◌≡◌, refl, ap}
-use mathlib.Core.Bool.{Bool, true, false, cond, not, ◌||◌}
-use Prim.Native.Nat.{ℕ, ◌+◌, ◌-◌, ◌/◌, ◌%◌, ◌<◌}
-use native.Mathlib.Omega.{arith}
-use lib.Dec.{eqb}
-use lib.IntN.{ℤ, nat_abs}
-use borrow.Author.Tests.{eq-eqb, ne_eqb, eqb-true, eqb-false}
+use Rattle.std.proofs.Common.{◌≡◌, refl, ap, Bool, true, false, cond, not, ◌||◌, ℕ, ◌+◌, ◌-◌, ◌/◌, ◌%◌, ◌<◌, arith, eqb, ℤ, nat_abs, eq-eqb, ne_eqb, eqb-true}
+use Rattle.std.proofs.lemmas.Bool.{eqb-false}
 use Rattle.manual.specs.declared.Columns.{Columns}
 use Rattle.manual.specs.TheMachine.{binary_overflow, test_false, decimal_overflow, equal, low, high, is_on, turn_on, turn_off, set_order}
 use Rattle.manual.specs.Values.{overflows, negative, sign_order, cut_to}

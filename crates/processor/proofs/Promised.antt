@@ -1,10 +1,5 @@
 -- What `step` and `run` promise, as a host reads it: laws on any result that their statements allow. What carries it: the manual's theorems, through the one equation of each statement.
-use mathlib.Core.Path.{◌≡◌, ap, sym, ◌∙◌, subst}
-use mathlib.Core.Bool.{true}
-use mathlib.Core.List.{List}
-use mathlib.Core.Logic.{◌↔◌}
-use Prim.Native.Nat.{ℕ, ◌+◌, ◌≤◌}
-use lib.ListN.{length}
+use Rattle.std.proofs.Common.{◌≡◌, ap, sym, ◌∙◌, subst, true, List, ◌↔◌, ℕ, ◌+◌, ◌≤◌, length}
 use Rattle.manual.specs.declared.Machine.{Machine}
 use Rattle.manual.specs.declared.Stepped.{Stepped}
 use Rattle.manual.specs.declared.Ran.{Ran}

@@ -1,12 +1,7 @@
 -- A program depends on what it reads alone, and keeps what it doesn't write. What carries it: three clauses, one for each form of a program.
-use mathlib.Core.Path.{◌≡◌, refl, sym, ◌∙◌}
-use mathlib.Core.Bool.{Bool, true, false, not, ◌&&◌, ◌||◌, true≢false, false≢true, and-true}
-use mathlib.Core.List.{List, [], ◌∷◌}
-use Prim.Native.Nat.{ℕ, zero, suc}
-use native.Mathlib.Omega.{arith}
-use lib.ListN.{length, get_or, set, length-set}
-use borrow.Author.Tests.{eqb-true, eqb-false, eq-eqb}
-use lib.Seq.{get_or-set_other}
+use Rattle.std.proofs.Common.{◌≡◌, refl, sym, ◌∙◌, Bool, true, false, not, ◌&&◌, ◌||◌, true≢false, List, [], ◌∷◌, ℕ, zero, suc, arith, length, get_or, set, length-set, eqb-true, eq-eqb, get_or-set_other}
+use Rattle.std.proofs.lemmas.Bool.{false≢true, eqb-false}
+use Rattle.std.proofs.Math.Bool.{and-true}
 use Rattle.manual.specs.declared.Register.{Register}
 use Rattle.manual.specs.declared.Register.TheVariants.{Arr, Xr1, Xr2, Work}
 use Rattle.manual.specs.Places.{Place, mem, reg, same, same_register, State, look, put}

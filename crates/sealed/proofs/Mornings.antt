@@ -1,10 +1,6 @@
 -- A program that reads only what the host or the run has written gives the same morning. What carries it: demand 3, with every other byte sealed.
-use mathlib.Core.Path.{◌≡◌, refl, ap, ◌∙◌}
-use mathlib.Core.Bool.{Bool, true, false, not, ◌&&◌, ◌||◌}
-use mathlib.Core.List.{List}
-use Prim.Native.Nat.{ℕ, zero, suc}
-use lib.ListN.{length, get_or}
-use borrow.Author.Tests.{not-false}
+use Rattle.std.proofs.Common.{◌≡◌, refl, ap, ◌∙◌, Bool, true, false, not, ◌&&◌, ◌||◌, List, ℕ, zero, suc, length, get_or}
+use Rattle.std.proofs.lemmas.Bool.{not-false}
 use Rattle.manual.specs.declared.Machine.{Machine}
 use Rattle.manual.specs.declared.Ran.{Ran}
 use Rattle.manual.specs.Places.{mem}

@@ -1,8 +1,5 @@
 -- One step, from two machines and storages that agree at every place that isn't sealed. What carries it: a step is a program, and its lists are exact.
-use mathlib.Core.Path.{◌≡◌, refl, ap, sym, ◌∙◌}
-use mathlib.Core.Bool.{Bool, true, false}
-use mathlib.Core.List.{List}
-use Prim.Native.Nat.{ℕ}
+use Rattle.std.proofs.Common.{◌≡◌, refl, ap, sym, ◌∙◌, Bool, true, false, List, ℕ}
 use Rattle.manual.specs.declared.Machine.{Machine}
 use Rattle.manual.specs.declared.Register.TheVariants.{Arr, Xr1, Xr2, Work}
 use Rattle.manual.specs.declared.Answer.{Answer}
