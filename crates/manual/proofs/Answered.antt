@@ -1,6 +1,6 @@
 -- A step stops exactly where the order of the stops says, with that stop, and executes where nothing stands in its way.
 -- What carries it: how the stop goes through each form of a program, then one line an operation.
-use Rattle.std.proofs.Common.{Ok, Err, ◌≡◌, refl, Bool, true, false, cond, List, ℕ}
+use Rattle.std.proofs.Common.{Ok, Err, ◌≡◌, refl, Bool, cond, List, ℕ}
 use Rattle.manual.specs.declared.Machine.{Machine}
 use Rattle.manual.specs.declared.Stop.{Stop}
 use Rattle.manual.specs.declared.Answer.{Answer}
@@ -19,7 +19,7 @@ use Rattle.manual.specs.Immediate.{tbn, tbf, sbn, sbf, mvi, cli, sli}
 use Rattle.manual.specs.Branches.{branch, jump, load_address, call}
 use Rattle.manual.specs.Step.{exec, given, settle, did, inner_step}
 use Rattle.manual.specs.Stops.{fields_of, outside, further, barred, barred_in, barred_at}
-use Rattle.manual.proofs.Running.{val_bind, val_leftward, fin_leftward}
+use Rattle.manual.proofs.Running.{val_bind, val_leftward, fin_leftward, cond_same, cond_map}
 use Rattle.manual.proofs.Fetched.{did_step, did_stop, did_perform}
 
 -- the answer where w stands in the way
@@ -55,8 +55,7 @@ unfolding meets val
 a_wr l v p σ = refl
 
 a_cond : (b : Bool) (p q : Prog Out) (σ : State) → meets (cond b p q) σ ≡ cond b (meets p σ) (meets q σ)
-a_cond true p q σ = refl
-a_cond false p q σ = refl
+a_cond b p q σ = cond_map (λ (r : Prog Out). meets r σ) b p q
 
 a_unless : (w : Way) (p : Prog Out) (σ : State) → meets (unless w p) σ ≡ and_then w (meets p σ)
 unfolding unless and_then
@@ -81,11 +80,7 @@ unfolding and_then
 then_assoc (Ok tt) v w = refl
 then_assoc (Err x) v w = refl
 
-way_same : (b : Bool) (w : Way) → cond b w w ≡ w
-way_same true w = refl
-way_same false w = refl
-
-ruleset answering = (a_stop, a_go, a_rd, a_wr, a_cond, a_unless, a_bind, then_clear, clear_then, then_assoc, way_same, val_leftward, fin_leftward)
+ruleset answering = (a_stop, a_go, a_rd, a_wr, a_cond, a_unless, a_bind, then_clear, clear_then, then_assoc, cond_same, val_leftward, fin_leftward)
 
 -- ---- the operations
 

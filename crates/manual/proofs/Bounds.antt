@@ -1,5 +1,6 @@
 -- The limits of the numbers that a machine, a storage and an instruction hold, and programs that keep them. What carries it: one induction on such a program.
-use Rattle.std.proofs.Common.{Ok, Err, ◌≡◌, ◌∙◌, Bool, true, false, cond, ◌&&◌, List, ℕ, ◌+◌, ◌<◌, arith, length, get_or, length-set, eqb, ltb, leb}
+use Rattle.std.proofs.Common.{Ok, Err, ◌≡◌, ◌∙◌, Bool, cond, ◌&&◌, List, ℕ, ◌+◌, ◌<◌, arith, length, get_or, length-set, eqb, ltb, leb}
+use Rattle.std.proofs.lemmas.Bool.{cond_both}
 use Rattle.manual.specs.declared.Machine.{Machine}
 use Rattle.manual.specs.declared.Register.TheVariants.{Arr, Xr1, Xr2, Work}
 use Rattle.manual.specs.declared.Stop.{Stop}
@@ -9,11 +10,10 @@ use Rattle.manual.specs.declared.Instruction.{Instruction}
 use Rattle.manual.specs.declared.Fields.{Fields}
 use Rattle.manual.specs.Numbers.{stop_told, answer_told}
 use Rattle.manual.specs.Places.{Place, mem, reg, State, look, put}
-use Rattle.manual.specs.Programs.{Prog, ret, rd, wr, val, fin, ◌>>=◌, Out, stop, go, unless, and_then, Way}
+use Rattle.manual.specs.Programs.{Prog, ret, rd, wr, val, fin, ◌>>=◌, Out, stop, go, unless, Way}
 use Rattle.manual.specs.Formats.{reach, reach_right}
 use Rattle.manual.specs.Values.{digits_of, all_digits}
 use Rattle.manual.specs.Edit.{source_reach}
-use Rattle.manual.proofs.Status.{pick}
 use Rattle.manual.proofs.FieldBytes.{set_below}
 use Rattle.manual.specs.Decode.{Decoded}
 
@@ -119,8 +119,7 @@ module _ {A : Type 0} {P : A → Type 0} where
   keeps_bind (writing h k) t = writing h (keeps_bind k t)
 
   pub keeps_cond : (b : Bool) {p q : Prog A} → Keeps P p → Keeps P q → Keeps P (cond b p q)
-  keeps_cond true h k = h
-  keeps_cond false h k = k
+  keeps_cond b h k = cond_both b _ _ (Keeps P) (λ _. h) (λ _. k)
 
 -- ---- what stands in the way carries no byte
 
@@ -136,24 +135,19 @@ plain_digit = omega arith
 
 pub way_reach : (size n a : ℕ) → BoundedWay (reach size n a)
 unfolding reach
-way_reach size n a = pick BoundedWay (ltb a size && leb n (a + 1)) (Ok tt) (Err OperandOutside) tt plain_outside
+way_reach size n a = cond_both (ltb a size && leb n (a + 1)) (Ok tt) (Err OperandOutside) BoundedWay (λ _. tt) (λ _. plain_outside)
 
 pub way_reach_right : (size n a : ℕ) → BoundedWay (reach_right size n a)
 unfolding reach_right
-way_reach_right size n a = pick BoundedWay (leb (a + n) size) (Ok tt) (Err OperandOutside) tt plain_outside
+way_reach_right size n a = cond_both (leb (a + n) size) (Ok tt) (Err OperandOutside) BoundedWay (λ _. tt) (λ _. plain_outside)
 
 pub way_source : (size n a : ℕ) → BoundedWay (source_reach size n a)
 unfolding source_reach
-way_source size n a = pick BoundedWay (eqb n 0) (Ok tt) (reach size n a) tt (way_reach size n a)
+way_source size n a = cond_both (eqb n 0) (Ok tt) (reach size n a) BoundedWay (λ _. tt) (λ _. way_reach size n a)
 
 pub way_digits : (bs : List ℕ) → BoundedWay (digits_of bs)
 unfolding digits_of
-way_digits bs = pick BoundedWay (all_digits bs) (Ok tt) (Err DigitRefused) tt plain_digit
-
-pub way_both : (v w : Way) → BoundedWay v → BoundedWay w → BoundedWay (and_then v w)
-unfolding and_then
-way_both (Ok tt) w h k = k
-way_both (Err x) w h k = h
+way_digits bs = cond_both (all_digits bs) (Ok tt) (Err DigitRefused) BoundedWay (λ _. tt) (λ _. plain_digit)
 
 pub keeps_unless : (w : Way) {p : Prog Out} → BoundedWay w → Keeps BoundedOut p → Keeps BoundedOut (unless w p)
 unfolding unless

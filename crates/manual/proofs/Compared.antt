@@ -1,6 +1,7 @@
 -- Compares are unsigned: CLC's order is the order of the two numbers, CLI's of the two bytes, and 40 is below F1. What carries it: a byte is below 256.
-use Rattle.std.proofs.Common.{◌≡◌, refl, sym, ◌∙◌, ap, ◌↔◌, true, List, [], ◌∷◌, ◌++◌, ℕ, suc, ◌+◌, ◌≤◌, ◌<◌, arith, length, get_or, lt-ltb, le-ltb, eq-eqb, ne_eqb}
-use Rattle.std.proofs.Math.Decide.{dec_lt}
+use Rattle.std.proofs.Common.{◌≡◌, refl, sym, ◌∙◌, ap, ◌↔◌, true, List, [], ◌∷◌, ◌++◌, ℕ, suc, ◌+◌, ◌≤◌, ◌<◌, arith, length, get_or, lt-ltb, le-ltb, eq-eqb, ne_eqb, ◌⊎◌, inl, inr}
+use Rattle.std.proofs.lemmas.Bool.Decides.{nat_tests}
+use Rattle.std.proofs.lemmas.Bool.{cases_order}
 use Rattle.std.proofs.Math.Nat.{suc_inj}
 use Rattle.manual.specs.declared.Machine.{Machine}
 use Rattle.manual.specs.declared.Fields.{Fields}
@@ -17,20 +18,6 @@ use Rattle.manual.proofs.FieldBytes.{Bytes, bytes_length, bytes_of_lem}
 
 -- ---- the order of two numbers
 
--- the three ways that two numbers can stand
-pub data Order (x y : ℕ) : Type 0 where
-  same : x ≡ y → Order x y
-  below : x < y → Order x y
-  above : y < x → Order x y
-
-pub order : (x y : ℕ) → Order x y
-order x y = go (dec_lt x y) (dec_lt y x)
-  where
-    go : Dec (x < y) → Dec (y < x) → Order x y
-    go (yes h) d = below h
-    go (no h) (yes k) = above k
-    go (no h) (no k) = same (omega arith)
-
 pub order_equal : (x y : ℕ) → x ≡ y → order_of x y ≡ equal
 unfolding order_of
 order_equal x y h = rw (eq-eqb x y h)
@@ -45,37 +32,21 @@ order_high x y h = let k : y ≤ x = omega arith in rw (ne_eqb x y (λ e. omega 
 
 -- each order is told of just the numbers that stand so
 pub equal_told : (x y : ℕ) → (order_of x y ≡ equal) ↔ (x ≡ y)
-equal_told x y = (λ e. go e (order x y), order_equal x y)
-  where
-    go : order_of x y ≡ equal → Order x y → x ≡ y
-    go e (same h) = h
-    go e (below h) = omega (arith, e, order_low x y h)
-    go e (above h) = omega (arith, e, order_high x y h)
+unfolding order_of
+equal_told x y = (λ e. grind (arith, nat_tests), order_equal x y)
 
 pub low_told : (x y : ℕ) → (order_of x y ≡ low) ↔ (x < y)
-low_told x y = (λ e. go e (order x y), order_low x y)
-  where
-    go : order_of x y ≡ low → Order x y → x < y
-    go e (same h) = omega (arith, e, order_equal x y h)
-    go e (below h) = h
-    go e (above h) = omega (arith, e, order_high x y h)
+unfolding order_of
+low_told x y = (λ e. grind (arith, nat_tests), order_low x y)
 
 pub high_told : (x y : ℕ) → (order_of x y ≡ high) ↔ (y < x)
-high_told x y = (λ e. go e (order x y), order_high x y)
-  where
-    go : order_of x y ≡ high → Order x y → y < x
-    go e (same h) = omega (arith, e, order_equal x y h)
-    go e (below h) = omega (arith, e, order_low x y h)
-    go e (above h) = h
+unfolding order_of
+high_told x y = (λ e. grind (arith, nat_tests), order_high x y)
 
 -- an order fits in its three bits
 pub order_small : (x y : ℕ) → order_of x y < 8
-order_small x y = go (order x y)
-  where
-    go : Order x y → order_of x y < 8
-    go (same h) = omega (arith, order_equal x y h)
-    go (below h) = omega (arith, order_low x y h)
-    go (above h) = omega (arith, order_high x y h)
+unfolding order_of
+order_small x y = grind (arith, nat_tests)
 
 -- ---- the rules
 
@@ -115,12 +86,12 @@ number_decides (u ∷ xs) (v ∷ ys) zs x y l h k e =
 
 pub order_decides : (xs ys zs : List ℕ) (x y : ℕ) → length xs ≡ length ys → Bytes xs → Bytes ys → (x ≡ y → ⊥)
     → order_of (number (xs ++ x ∷ zs)) (number (ys ++ y ∷ zs)) ≡ order_of x y
-order_decides xs ys zs x y l h k d = go (order x y)
+order_decides xs ys zs x y l h k d = go (cases_order x y)
   where
-    go : Order x y → order_of (number (xs ++ x ∷ zs)) (number (ys ++ y ∷ zs)) ≡ order_of x y
-    go (same e) = absurd (d e)
-    go (below e) = rw (order_low x y e) (order_low _ _ (number_decides xs ys zs x y l h k e))
-    go (above e) = rw (order_high x y e) (order_high _ _ (number_decides ys xs zs y x (sym l) k h e))
+    go : (x ≡ y) ⊎ ((x < y) ⊎ (y < x)) → order_of (number (xs ++ x ∷ zs)) (number (ys ++ y ∷ zs)) ≡ order_of x y
+    go (inl e) = absurd (d e)
+    go (inr (inl e)) = rw (order_low x y e) (order_low _ _ (number_decides xs ys zs x y l h k e))
+    go (inr (inr e)) = rw (order_high x y e) (order_high _ _ (number_decides ys xs zs y x (sym l) k h e))
 
 -- so CLC says equal of just the fields that are byte for byte the same
 pub field_equal : (s : List ℕ) (n a b : ℕ) → Bytes s

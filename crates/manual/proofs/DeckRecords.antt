@@ -1,21 +1,16 @@
 -- What is known of a record that was not refused, and that such a record is not refused. What carries it: the tests, one by one.
 use Rattle.std.proofs.Common.{Ok, Err, ℕ, suc, ◌+◌, ◌≤◌, ◌<◌, ◌*◌, ◌/◌, Bool, true, false, cond, not, List, ◌⊎◌, inl, inr, ⊎_elim, ◌≡◌, refl, sym, ◌∙◌, arith, eq-eqb, eqb-true, leb-true, le-leb, ltb-true, lt-ltb, eqb, leb, ltb, length, get_or, take, drop}
-use Rattle.std.proofs.lemmas.Bool.{eqb-false, not-true}
+use Rattle.std.proofs.lemmas.Bool.{eqb-false, not-true, and_parts, cases_Bool}
 use Rattle.manual.specs.declared.DeckFault.{DeckFault}
 use Rattle.manual.specs.declared.DeckFault.TheVariants.{BytesAfterEnd}
 use Rattle.manual.specs.TheMachine.{status_allowed}
 use Rattle.manual.specs.Deck.{all_zero, kind_known, record_length, provided, record_answer, first_answer, page_answer, later_answer, deck_answer}
-use Rattle.manual.proofs.Running.{and_both}
 use Rattle.manual.specs.Numbers.{ReadAnswer}
 
 -- ---- tests
 
-pub either : (b : Bool) → (b ≡ true) ⊎ (b ≡ false)
-either true = inl refl
-either false = inr refl
-
 pub refused_read : {x : DeckFault} → ◌≡◌ {A = ReadAnswer} (Err x) (Ok tt) → ⊥
-refused_read e = let z : ◌≡◌ {A = ℕ} 0 1 = cc in omega arith
+refused_read e = cc
 
 -- a test that did not refuse held
 passed : (b : Bool) (x : DeckFault) (more : ReadAnswer) → provided b x more ≡ Ok tt → (b ≡ true) × (more ≡ Ok tt)
@@ -38,7 +33,7 @@ asked b d more e =
     let e2 = passed (kind_known kind) _ _ e1.1 in
     let e3 = passed b _ _ e2.1 in
     let e4 = passed (leb (record_length kind) (length d)) _ _ e3.1 in
-    let k = and_both (leb 1 kind) (leb kind 3) e2.0 in
+    let k = and_parts (leb 1 kind) (leb kind 3) e2.0 in
     (record { some = ltb-true 0 (length d) e1.0; least = leb-true 1 kind k.0; most = leb-true kind 3 k.1; order = e3.0; whole = leb-true _ _ e4.0 }, e4.1)
 
 -- such a record is not refused
@@ -132,7 +127,7 @@ module _ (d : List ℕ) (pages next : ℕ) (more : ReadAnswer) where
       (λ b.
       let last = passed (eqb (length d) 1) _ _ (rw b at a.1) in
       inr (record { kind = omega (arith, a.0.least, a.0.most, eqb-false (get_or d 0 0) 1 one, eqb-false (get_or d 0 0) 2 b); last = eqb-true _ _ last.0 }))
-      (either (eqb (get_or d 0 0) 2))
+      (cases_Bool (eqb (get_or d 0 0) 2))
 
   pub page_good : PageAt d pages next → later_record d pages next more ≡ more
   unfolding later_record page_answer

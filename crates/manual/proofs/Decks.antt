@@ -1,18 +1,18 @@
 -- A machine written as a deck and read again is that machine; an accepted deck read and written again is that deck; and how long a deck is.
 -- What carries it: one induction on the pages of a storage, and one on the records of an accepted deck.
 use Rattle.std.proofs.Common.{Ok, Err, ℕ, zero, suc, ◌+◌, ◌≤◌, ◌<◌, ◌-◌, ◌*◌, ◌/◌, ◌%◌, pred, Bool, true, false, cond, List, [], ◌∷◌, ◌++◌, append_assoc, ⊎_elim, ◌≡◌, refl, ap, sym, ◌∙◌, add-zero, zero-add, div-add-mod', arith, eqb-true, leb-true, le-leb, ltb-true, lt-ltb, eq-eqb, eqb, leb, lit<, length, get_or, take, drop, length-append, length-drop, take-append-drop, replicate, length-take-le, take_at, drop_at, drop-cons, get_or-drop}
+use Rattle.std.proofs.lemmas.List.{nil_from_length}
+use Rattle.std.proofs.lemmas.Bool.{and_parts, cases_Bool, cond_both}
 use Rattle.std.proofs.Math.Seq.{take-append_seam, drop-append_seam}
 use Rattle.manual.specs.declared.Machine.{Machine}
 use Rattle.manual.specs.declared.DeckFault.{DeckFault}
 use Rattle.manual.specs.declared.WriteFault.{WriteFault}
 use Rattle.manual.specs.TheMachine.{size_allowed, status_allowed}
 use Rattle.manual.specs.Deck.{machine_record, machine_in, all_zero, page_records, deck_of, later_answer, deck_answer, over, paged, storage_in, read_outcome, zeroed, read_of, WriteOutcome, write_outcome, write_of}
-use Rattle.manual.proofs.Running.{and_both}
-use Rattle.manual.proofs.Status.{pick}
 use Rattle.manual.proofs.FieldBytes.{Bytes}
 use Rattle.manual.proofs.Bounds.{Bounded}
-use Rattle.manual.proofs.Pages.{none, zeros, length_zeros, zeros_add, zeros_page, zero_page, over_zeros, front_length, rest_length, records_none, records_some, skip_zeros, only_zeros}
-use Rattle.manual.proofs.DeckRecords.{either, FirstAt, first_good, PageAt, EndAt, later_is, page_good, end_good, accepted, later_cases, not_none}
+use Rattle.manual.proofs.Pages.{zeros, length_zeros, zeros_add, zeros_page, zero_page, over_zeros, front_length, rest_length, records_none, records_some, skip_zeros, only_zeros}
+use Rattle.manual.proofs.DeckRecords.{FirstAt, first_good, PageAt, EndAt, later_is, page_good, end_good, accepted, later_cases, not_none}
 
 -- ---- how long a deck is
 
@@ -28,7 +28,7 @@ used_length (suc n) k s h =
     let l : length (take 256 s) ≡ 256 = length-take-le 256 s (omega arith) in
     let i : n * 256 ≤ length (drop 256 s) = simp length-drop (omega arith) in
     let more = used_length n (k + 1) (drop 256 s) i in
-    ⊎_elim (λ b. rw b (rw zero-add more)) (λ b. rw b (simp length-append (omega arith))) (either (all_zero (take 256 s)))
+    ⊎_elim (λ b. rw b (rw zero-add more)) (λ b. rw b (simp length-append (omega arith))) (cases_Bool (all_zero (take 256 s)))
 
 pub length_parts : (m : Machine) (s : List ℕ) → length (deck_of m s) ≡ 20 + length (page_records (length s / 256) 0 s)
 unfolding deck_of machine_record
@@ -44,8 +44,8 @@ deck_length m s = length_parts m s ∙ ap (λ (n : ℕ). 20 + n) (used_length (l
 pub size_pages : (size : ℕ) → size_allowed size ≡ true → (size ≡ size / 256 * 256) × (1 ≤ size / 256) × (size / 256 ≤ 256)
 unfolding size_allowed
 size_pages size e =
-    let p = and_both (leb 256 size) _ e in
-    let q = and_both (leb size 65536) (eqb (size % 256) 0) p.1 in
+    let p = and_parts (leb 256 size) _ e in
+    let q = and_parts (leb size 65536) (eqb (size % 256) 0) p.1 in
     let least = leb-true 256 size p.0 in
     let most = leb-true size 65536 q.0 in
     let whole = eqb-true (size % 256) 0 q.1 in
@@ -87,7 +87,7 @@ later_written (suc n) f k next pages s l e o h =
     rw (records_some n k s b, append_assoc)
     (later_page f k pages next _ _ (front_length n s l) b (omega arith) o
     ∙ rw z (later_written n (pred f) (k + 1) (k + 1) pages (drop 256 s) (rest_length n s l) (omega arith) (omega arith) (omega arith))))
-    (either (all_zero (take 256 s)))
+    (cases_Bool (all_zero (take 256 s)))
 
 paged_page : (f k : ℕ) (page more s : List ℕ) → length page ≡ 256 → paged (suc f) (0x02 ∷ k ∷ page ++ more) s ≡ paged f more (over s (k * 256) page)
 unfolding paged
@@ -109,7 +109,7 @@ page_done n k done s d l = (
 paged_written : (n f k : ℕ) (done s : List ℕ) → length done ≡ k * 256 → length s ≡ n * 256 → length (page_records n k s) ≤ f
     → paged f (page_records n k s ++ 0x03 ∷ []) (done ++ zeros (n * 256)) ≡ done ++ s
 paged_written zero f k done s d l h =
-    unfold page_records in paged_end f (0x03 ∷ []) _ refl ∙ ap (λ (r : List ℕ). done ++ r) (none (zeros 0) (length_zeros 0) ∙ sym (none s l))
+    unfold page_records in paged_end f (0x03 ∷ []) _ refl ∙ ap (λ (r : List ℕ). done ++ r) (nil_from_length (zeros 0) (length_zeros 0) ∙ sym (nil_from_length s l))
 paged_written (suc n) f k done s d l h =
     let page = take 256 s in
     let whole = front_length n s l in
@@ -125,7 +125,7 @@ paged_written (suc n) f k done s d l h =
     (paged_page (pred f) k page _ _ whole
     ∙ rw (over_zeros done page (k * 256) n d whole)
     (paged_written n (pred f) (k + 1) (done ++ page) (drop 256 s) more.0 (rest_length n s l) (omega arith) ∙ more.1)))
-    (either (all_zero page))
+    (cases_Bool (all_zero page))
 
 four_listed : (w : List ℕ) → length w ≡ 4 → get_or w 0 0 ∷ get_or w 1 0 ∷ get_or w 2 0 ∷ get_or w 3 0 ∷ [] ≡ w
 four_listed [] l = absurd (omega arith)
@@ -205,7 +205,7 @@ not_wrote true x y n e h = (refl, e)
 not_wrote false x y n e h = absurd (h e)
 
 refused_wrote : {x : WriteFault} {n : ℕ} → Err x ≡ Ok n → ⊥
-refused_wrote e = let z : ◌≡◌ {A = ℕ} 0 1 = cc in omega arith
+refused_wrote e = cc
 
 pub wrote : (m : Machine) (s out : List ℕ) (n : ℕ) → (write_of m s out).gave ≡ Ok n → Wrote m s out n
 unfolding write_of
@@ -371,11 +371,8 @@ unfolding paged
 bytes_paged zero d s h k = k
 bytes_paged (suc f) d s h k =
     let page = take 256 (drop 2 d) in
-    pick Bytes (eqb (get_or d 0 0) 0x02) _ s
-    (bytes_paged f (drop 258 d) _ (bytes_drop 258 d h) (bytes_over s (get_or d 1 0 * 256) page k (bytes_take 256 (drop 2 d) (bytes_drop 2 d h)))) k
-
-word_below : (h l : ℕ) → h < 256 → l < 256 → h * 256 + l < 65536
-word_below h l p q = omega arith
+    cond_both (eqb (get_or d 0 0) 0x02) _ s Bytes
+    (λ _. bytes_paged f (drop 258 d) _ (bytes_drop 258 d h) (bytes_over s (get_or d 1 0 * 256) page k (bytes_take 256 (drop 2 d) (bytes_drop 2 d h)))) (λ _. k)
 
 module _ (d : List ℕ) (size : ℕ) (bytes : Bytes d) (good : deck_answer d size ≡ Ok tt) where
   first_read : FirstAt d size
@@ -416,10 +413,10 @@ module _ (d : List ℕ) (size : ℕ) (bytes : Bytes d) (good : deck_answer d siz
 
   words_below : (i : ℕ) → get_or (machine_in d).wr i 0 < 65536
   unfolding machine_in
-  words_below zero = word_below _ _ (bytes 10) (bytes 11)
-  words_below (suc zero) = word_below _ _ (bytes 12) (bytes 13)
-  words_below (suc (suc zero)) = word_below _ _ (bytes 14) (bytes 15)
-  words_below (suc (suc (suc zero))) = word_below _ _ (bytes 16) (bytes 17)
+  words_below zero = omega (arith, bytes 10, bytes 11)
+  words_below (suc zero) = omega (arith, bytes 12, bytes 13)
+  words_below (suc (suc zero)) = omega (arith, bytes 14, bytes 15)
+  words_below (suc (suc (suc zero))) = omega (arith, bytes 16, bytes 17)
   words_below (suc (suc (suc (suc i)))) = lit< tt
 
   -- what was read is within its bounds
@@ -427,10 +424,10 @@ module _ (d : List ℕ) (size : ℕ) (bytes : Bytes d) (good : deck_answer d siz
   unfolding machine_in storage_in
   read_bounded =
       record {
-        iar = word_below _ _ (bytes 2) (bytes 3);
-        arr = word_below _ _ (bytes 4) (bytes 5);
-        xr1 = word_below _ _ (bytes 6) (bytes 7);
-        xr2 = word_below _ _ (bytes 8) (bytes 9);
+        iar = omega (arith, bytes 2, bytes 3);
+        arr = omega (arith, bytes 4, bytes 5);
+        xr1 = omega (arith, bytes 6, bytes 7);
+        xr2 = omega (arith, bytes 8, bytes 9);
         wr = words_below;
         four = refl;
         status = first_read.status;

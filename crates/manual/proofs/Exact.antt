@@ -24,7 +24,7 @@ use Rattle.manual.specs.Branches.{branch, jump, load_address, call}
 use Rattle.manual.specs.Step.{exec, addressed, perform, follow, step, given}
 use Rattle.manual.specs.Stops.{address_of, fields_of, outside}
 use Rattle.manual.specs.Reads.{elem, field, span, when, before, operand_reads, register_reads, base_reads, whole, instruction_reads, further_reads, reads_of}
-use Rattle.manual.proofs.Running.{val_leftward, fin_leftward}
+use Rattle.manual.proofs.Running.{val_leftward, fin_leftward, cond_same, cond_map}
 use Rattle.manual.proofs.Fetched.{Sound, form_sound, val_fetch, fin_fetch}
 
 -- ---- the forms of a program
@@ -43,8 +43,7 @@ module _ {X : Type 0} where
   e_wr l v p σ x = refl
 
   pub e_cond : (b : Bool) (p q : Prog X) (σ : State) (x : Place) → reads (cond b p q) σ x ≡ cond b (reads p σ x) (reads q σ x)
-  e_cond true p q σ x = refl
-  e_cond false p q σ x = refl
+  e_cond b p q σ x = cond_map (λ (r : Prog X). reads r σ x) b p q
 
 pub e_unless : (w : Way) (p : Prog Out) (σ : State) (x : Place) → reads (unless w p) σ x ≡ cond (clear w) (reads p σ x) false
 unfolding unless reads
@@ -64,12 +63,7 @@ elem_append x [] ys = refl
 elem_append x (a ∷ xs) ys = rw (elem_append x xs ys) (sym (or_assoc (same a x) _ _))
 
 pub elem_cond : (x : Place) (b : Bool) (xs ys : List Place) → elem x (cond b xs ys) ≡ cond b (elem x xs) (elem x ys)
-elem_cond x true xs ys = refl
-elem_cond x false xs ys = refl
-
-pub cond_same : (b c : Bool) → cond b c c ≡ c
-cond_same true c = refl
-cond_same false c = refl
+elem_cond x b xs ys = cond_map (elem x) b xs ys
 
 -- ---- the parts of the rules
 
@@ -152,7 +146,8 @@ pub ruleset exactly = (e_ret, e_rd, e_wr, e_cond, e_unless, e_bind, e_leftward, 
 
 -- ---- the operations
 
-abbrev setting : State → ℕ → ℕ → Given
+-- what a step is given in a state
+abbrev pub setting : State → ℕ → ℕ → Given
 setting σ iar status = record { size = length σ.bytes; iar = iar; status = status }
 
 abbrev listed : Operation → Fields → State → List Place

@@ -1,5 +1,6 @@
 -- What a step and a run keep: all where they stop, the storage's length, every number below its limit. What carries it: the step, as one program, keeps the bounds.
-use Rattle.std.proofs.Common.{◌≡◌, refl, sym, ap, ◌∙◌, Bool, true, false, cond, List, ℕ, zero, suc, ◌+◌, ◌<◌, arith, length, length-set, lt-ltb}
+use Rattle.std.proofs.Common.{◌≡◌, refl, sym, ap, ◌∙◌, List, ℕ, zero, suc, ◌+◌, ◌<◌, arith, length, length-set, lt-ltb}
+use Rattle.std.proofs.lemmas.Bool.{cond_both}
 use Rattle.manual.specs.declared.Machine.{Machine}
 use Rattle.manual.specs.declared.Refusal.{Refusal}
 use Rattle.manual.specs.declared.Refusal.TheVariants.{SizeRefused, BudgetRefused, StatusRefused}
@@ -12,7 +13,7 @@ use Rattle.manual.specs.TheMachine.{size_allowed, status_allowed}
 use Rattle.manual.specs.Step.{Outcome, ended, settle, given, did, step, inner_step, step_of}
 use Rattle.manual.specs.Run.{RanOutcome, ran, count_after, more_of, more, turns_of, run_of}
 use Rattle.manual.specs.When.{Entered}
-use Rattle.manual.proofs.Runs.{add_steps, not_refused, not_stopped, more_steps, one_more, runs_on, budget_below, run_entered, run_by}
+use Rattle.manual.proofs.Runs.{add_steps, more_steps, one_more, runs_on, budget_below, run_entered, run_by, ended_refused, ended_stopped}
 use Rattle.manual.proofs.Bounds.{Bounded, BoundedAnswer, BoundedOut, keeps}
 use Rattle.manual.proofs.OperationBounds.{keeps_step}
 
@@ -46,12 +47,8 @@ module _ (m : Machine) (s : List ℕ) where
   -- what holds of the step inside a run and of every refusal holds of the step
   pub step_by : (P : Outcome → Type 0) → P (inner_step m s) → ((x : Refusal) → P (ended m (Refused x) s)) → P (step_of m s)
   unfolding step_of
-  step_by P t r = on (size_allowed (length s)) (status_allowed m.status)
-    where
-      on : (x y : Bool) → P (cond x (cond y (inner_step m s) (ended m (Refused StatusRefused) s)) (ended m (Refused SizeRefused) s))
-      on true true = t
-      on true false = r StatusRefused
-      on false y = r SizeRefused
+  step_by P t r =
+      cond_both (size_allowed (length s)) _ _ P (λ _. cond_both (status_allowed m.status) _ _ P (λ _. t) (λ _. r StatusRefused)) (λ _. r SizeRefused)
 
   -- a step that stops or is refused leaves machine and storage as they were, IAR included
   pub stop_keeps : (number_of (step_of m s).gave.answer ≡ 0 → ⊥) → ((step_of m s).gave.machine ≡ m) × ((step_of m s).storage ≡ s)
@@ -59,7 +56,7 @@ module _ (m : Machine) (s : List ℕ) where
 
 -- ---- the storage's length
 
-put_length : (l : Place) (v : ℕ) (σ : State) → length (put l v σ).bytes ≡ length σ.bytes
+pub put_length : (l : Place) (v : ℕ) (σ : State) → length (put l v σ).bytes ≡ length σ.bytes
 put_length (mem a) v σ = length-set σ.bytes a v
 put_length (reg r) v σ = refl
 
@@ -176,8 +173,8 @@ module _ (m : Machine) (s : List ℕ) where
     counted_of Executed e =
         one_more m s j ∙ ap more at ∙ more_steps (ran n Executed j l) refl
         ∙ ap (λ (a : Answer). ran (inner_step n l).gave.machine a (count_after j a) (inner_step n l).storage) e
-    counted_of (Refused x) e = stop_stays (λ z. not_refused x (sym (ap number_of e) ∙ z))
-    counted_of (Stopped x) e = stop_stays (λ z. not_stopped x (sym (ap number_of e) ∙ z))
+    counted_of (Refused x) e = stop_stays (ended_refused e)
+    counted_of (Stopped x) e = stop_stays (ended_stopped e)
 
   as_counted_of : (o : RanOutcome) (a : Answer) → AsCounted m s o → AsCounted m s (more_of a o)
   as_counted_of o Executed h =

@@ -1,5 +1,6 @@
 -- Every operation, and the step as a whole, keeps the numbers below their limits. What carries it: `Keeps` through each part of a rule, then one operation a time.
 use Rattle.std.proofs.Common.{Ok, Err, Option, Some, None, Bool, true, false, cond, List, [], ◌∷◌, ℕ, zero, suc, ◌+◌, ◌-◌, ◌*◌, ◌/◌, ◌%◌, ◌<◌, arith, lt_of_le_of_lt, get_or, drop, eqb, ltb, leb, lit<, ℤ, ◌+ℤ◌, ◌-ℤ◌, bit_and}
+use Rattle.std.proofs.lemmas.Bool.{cond_both}
 use Rattle.std.proofs.lemmas.Nat.{or_lt, and_le_l}
 use Rattle.manual.specs.declared.Stop.TheVariants.{CutShort, OpcodeUnknown, QRefused, Supervisor}
 use Rattle.manual.specs.declared.Operation.{Operation}
@@ -22,11 +23,12 @@ use Rattle.manual.specs.Registers.{is_status, store, load, add, subtract}
 use Rattle.manual.specs.Immediate.{tested, changed, tbn, tbf, sbn, sbf, mvi, cli, sli}
 use Rattle.manual.specs.Branches.{taken, after_test, branch, jump, load_address, call}
 use Rattle.manual.specs.Step.{exec, based, addressed, fields, perform, follow, step}
-use Rattle.manual.proofs.Status.{pick, below, sign_small, order_below, test_below, sum_below, difference_below, zoned_below, loaded_below, after_below}
+use Rattle.manual.proofs.Status.{below, sign_small, order_below, test_below, sum_below, difference_below, zoned_below, loaded_below, after_below}
 use Rattle.manual.proofs.FieldBytes.{Bytes, cons_below}
 use Rattle.manual.proofs.Compared.{order_small}
 use Rattle.manual.proofs.Sums.{byte_added, byte_subtracted}
-use Rattle.manual.proofs.Bounds.{BoundedStop, BoundedOut, BoundedFields, BoundedInstruction, BoundedDecoded, Keeps, giving, reading, writing, keeps_bind, keeps_cond, BoundedWay, way_reach, way_reach_right, way_source, way_digits, way_both, keeps_unless}
+use Rattle.manual.proofs.Bounds.{BoundedStop, BoundedOut, BoundedFields, BoundedInstruction, BoundedDecoded, Keeps, giving, reading, writing, keeps_bind, keeps_cond, BoundedWay, way_reach, way_reach_right, way_source, way_digits, keeps_unless}
+use Rattle.manual.proofs.Running.{both_hold}
 
 -- ---- the parts of the rules
 
@@ -58,12 +60,6 @@ keeps_columns column h zero a b c = giving tt
 keeps_columns column h (suc n) a b c =
     reading λ x hx. reading λ y hy. writing (h x y c.over) (keeps_columns column h n (a - 1) (b - 1) (onward c (column x y c.over)))
 
-digit_byte : (m : ℕ) → 0xF0 + m % 10 < 256
-digit_byte m = omega arith
-
-half_byte : (y : ℕ) → 0xF0 + y % 16 < 256
-half_byte y = omega arith
-
 sign_byte : (sign : Bool) (m : ℕ) → cond sign 0xD0 0xF0 + m % 10 < 256
 sign_byte true m = omega arith
 sign_byte false m = omega arith
@@ -71,7 +67,7 @@ sign_byte false m = omega arith
 keeps_digits : (n a m : ℕ) → Keeps Any (put_digits n a m)
 unfolding put_digits
 keeps_digits zero a m = giving tt
-keeps_digits (suc n) a m = writing (digit_byte m) (keeps_digits n (a - 1) (m / 10))
+keeps_digits (suc n) a m = writing (omega arith) (keeps_digits n (a - 1) (m / 10))
 
 keeps_zoned : (n a : ℕ) (sign : Bool) (m : ℕ) → Keeps Any (put_zoned n a sign m)
 unfolding put_zoned
@@ -81,7 +77,7 @@ keeps_zoned (suc n) a sign m = writing (sign_byte sign m) (keeps_digits n (a - 1
 keeps_edited : (ps ys : List ℕ) (a : ℕ) → Keeps Any (put_edited ps ys a)
 unfolding put_edited
 keeps_edited [] ys a = giving tt
-keeps_edited (p ∷ ps) ys a = keeps_cond (takes_digit p) (writing (half_byte (get_or ys 0 0)) (keeps_edited ps (drop 1 ys) (a - 1))) (keeps_edited ps ys (a - 1))
+keeps_edited (p ∷ ps) ys a = keeps_cond (takes_digit p) (writing (omega arith) (keeps_edited ps (drop 1 ys) (a - 1))) (keeps_edited ps ys (a - 1))
 
 keeps_scan : (n a v : ℕ) → v < 256 → Keeps Any (scan n a v)
 unfolding scan
@@ -99,15 +95,6 @@ word_below n = omega arith
 pair_below : (left right : ℕ) → left < 256 → right < 256 → left * 256 + right < 65536
 pair_below left right hl hr = omega arith
 
-left_byte : (v : ℕ) → v < 65536 → v / 256 < 256
-left_byte v h = omega arith
-
-right_byte : (v : ℕ) → v % 256 < 256
-right_byte v = omega arith
-
-status_byte : (x : ℕ) → x < 64 → x < 256
-status_byte x h = omega arith
-
 going : {i x : ℕ} → i < 65536 → x < 64 → Keeps BoundedOut (ret (go i x))
 going {i} {x} h k = giving {x = go i x} (h, k)
 
@@ -119,10 +106,10 @@ module _ (f : Fields) (g : Given) (b : BoundedFields f) (h : g.status < 64) wher
   goes = going b.next h
 
   way_zoned : BoundedWay (zoned_reach f g.size)
-  way_zoned = way_both (reach g.size (l1 f.q) f.a1) (reach g.size (l2 f.q) f.a2) (way_reach _ _ _) (way_reach _ _ _)
+  way_zoned = both_hold BoundedWay (reach g.size (l1 f.q) f.a1) (reach g.size (l2 f.q) f.a2) (way_reach _ _ _) (way_reach _ _ _)
 
   way_fields : BoundedWay (reach_both f g.size)
-  way_fields = way_both (reach g.size (f.q + 1) f.a1) (reach g.size (f.q + 1) f.a2) (way_reach _ _ _) (way_reach _ _ _)
+  way_fields = both_hold BoundedWay (reach g.size (f.q + 1) f.a1) (reach g.size (f.q + 1) f.a2) (way_reach _ _ _) (way_reach _ _ _)
 
   keeps_result : (x : ℤ) → Keeps BoundedOut (put_result f x g)
   unfolding put_result
@@ -137,12 +124,12 @@ module _ (f : Fields) (g : Given) (b : BoundedFields f) (h : g.status < 64) wher
   keeps_combine op =
       keeps_unless _ way_zoned
       (keeps_bind (keeps_leftward _ _) λ ys hy. keeps_bind (keeps_leftward _ _) λ xs hx.
-      keeps_unless _ (way_both (digits_of ys) (digits_of xs) (way_digits ys) (way_digits xs)) (keeps_result (op (value xs) (value ys))))
+      keeps_unless _ (both_hold BoundedWay (digits_of ys) (digits_of xs) (way_digits ys) (way_digits xs)) (keeps_result (op (value xs) (value ys))))
 
   keeps_mvx : Keeps BoundedOut (mvx f g)
   unfolding mvx
   keeps_mvx =
-      keeps_unless _ (way_both (reach g.size 1 f.a1) (reach g.size 1 f.a2) (way_reach _ _ _) (way_reach _ _ _))
+      keeps_unless _ (both_hold BoundedWay (reach g.size 1 f.a1) (reach g.size 1 f.a2) (way_reach _ _ _) (way_reach _ _ _))
       (reading λ y hy. reading λ x hx. writing (half_below f.q x y hx hy) goes)
 
   keeps_ed : Keeps BoundedOut (ed f g)
@@ -156,7 +143,7 @@ module _ (f : Fields) (g : Given) (b : BoundedFields f) (h : g.status < 64) wher
   keeps_itc : Keeps BoundedOut (itc f g)
   unfolding itc
   keeps_itc =
-      keeps_unless _ (way_both (reach_right g.size (f.q + 1) f.a1) (reach g.size 1 f.a2) (way_reach_right _ _ _) (way_reach _ _ _))
+      keeps_unless _ (both_hold BoundedWay (reach_right g.size (f.q + 1) f.a1) (reach g.size 1 f.a2) (way_reach_right _ _ _) (way_reach _ _ _))
       (reading λ v hv. keeps_bind (keeps_scan _ _ v hv) λ end t. writing (word_below end) goes)
 
   keeps_mvc : Keeps BoundedOut (mvc f g)
@@ -182,8 +169,8 @@ module _ (f : Fields) (g : Given) (b : BoundedFields f) (h : g.status < 64) wher
   unfolding store
   keeps_store =
       keeps_cond (is_status f.q)
-      (keeps_unless _ (way_reach _ _ _) (writing (status_byte g.status h) (writing (lit< tt) goes)))
-      (reading λ v hv. keeps_unless _ (way_reach _ _ _) (writing (right_byte v) (writing (left_byte v hv) goes)))
+      (keeps_unless _ (way_reach _ _ _) (writing (omega arith) (writing (lit< tt) goes)))
+      (reading λ v hv. keeps_unless _ (way_reach _ _ _) (writing (omega arith) (writing (omega arith) goes)))
 
   keeps_load : Keeps BoundedOut (load f g)
   unfolding load
@@ -324,8 +311,8 @@ keeps_named size iar opcode f None h = giving {x = Err OpcodeUnknown} plain_unkn
 keeps_named size iar opcode f (Some op) h =
     keeps_cond (ltb (size - iar) f.length) (giving {x = Err CutShort} plain_short)
     (keeps_bind (keeps_rightward (f.length - 1) (iar + 1)) λ later hs.
-    giving (pick BoundedDecoded (allowed op (get_or (opcode ∷ later) 1 0)) (Ok (instruction_of iar f op (λ k. get_or (opcode ∷ later) k 0))) (Err QRefused)
-    (instruction_below iar f op (λ k. get_or (opcode ∷ later) k 0) (cons_below 256 opcode later h hs)) plain_q))
+    giving (cond_both (allowed op (get_or (opcode ∷ later) 1 0)) (Ok (instruction_of iar f op (λ k. get_or (opcode ∷ later) k 0))) (Err QRefused) BoundedDecoded
+    (λ _. instruction_below iar f op (λ k. get_or (opcode ∷ later) k 0) (cons_below 256 opcode later h hs)) (λ _. plain_q)))
 
 keeps_fetch : (size iar : ℕ) → Keeps BoundedDecoded (fetch size iar)
 unfolding fetch

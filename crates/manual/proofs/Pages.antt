@@ -1,9 +1,9 @@
 -- Bytes put over others, zeros, and the pages of a storage with their records. What carries it: lists are cut where one of their parts ends.
 use Rattle.std.proofs.Common.{ℕ, zero, suc, ◌+◌, ◌≤◌, ◌<◌, ◌-◌, ◌*◌, Bool, true, false, cond, List, [], ◌∷◌, ◌++◌, append_assoc, append-nil, ◌≡◌, refl, ap, sym, ◌∙◌, add-zero, zero-add, add_assoc, add-one, arith, eqb-true, eqb, length, set, take, drop, length-append, length-drop, take-append-drop, replicate, length-take-le, take_at, drop-drop, drop_at}
-use Rattle.std.proofs.lemmas.List.{length-replicate, replicate-append-replicate, set_split}
+use Rattle.std.proofs.lemmas.Bool.{and_parts}
+use Rattle.std.proofs.lemmas.List.{length-replicate, replicate-append-replicate, set_split, nil_from_length}
 use Rattle.std.proofs.Math.Seq.{take-length, drop-append-add, paste}
 use Rattle.manual.specs.Deck.{all_zero, page_record, page_records, over}
-use Rattle.manual.proofs.Running.{and_both}
 
 -- ---- bytes put over others
 
@@ -63,10 +63,6 @@ paste_all s at xs = rw (take-length, append_assoc)
 
 -- ---- zeros
 
-pub none : (s : List ℕ) → length s ≡ 0 → s ≡ []
-none [] l = refl
-none (x ∷ s) l = absurd (omega arith)
-
 unfoldable pub zeros : ℕ → List ℕ
 zeros n = replicate n 0
 
@@ -91,7 +87,7 @@ all_zeros : (bs : List ℕ) → all_zero bs ≡ true → bs ≡ zeros (length bs
 unfolding all_zero zeros
 all_zeros [] b = refl
 all_zeros (x ∷ xs) b =
-    let e = and_both (eqb x 0) (all_zero xs) b in
+    let e = and_parts (eqb x 0) (all_zero xs) b in
     rw (eqb-true x 0 e.0) (ap (λ (r : List ℕ). 0 ∷ r) (all_zeros xs e.1))
 
 pub zero_page : (page : List ℕ) → length page ≡ 256 → all_zero page ≡ true → page ≡ zeros 256
@@ -134,7 +130,7 @@ module _ (n k : ℕ) (s : List ℕ) where
 
 -- pages of zeros have no record
 pub skip_zeros : (j k n : ℕ) (s : List ℕ) → page_records (j + n) k (zeros (j * 256) ++ s) ≡ page_records n (k + j) s
-skip_zeros zero k n s = rw (none (zeros (0 * 256)) (length_zeros 0), zero-add, add-zero)
+skip_zeros zero k n s = rw (nil_from_length (zeros (0 * 256)) (length_zeros 0), zero-add, add-zero)
 skip_zeros (suc j) k n s =
     let z : suc j + n ≡ suc (j + n) = omega arith in
     let i : k + suc j ≡ k + 1 + j = omega arith in

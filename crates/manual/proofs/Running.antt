@@ -1,6 +1,6 @@
 -- How a program runs, form by form: equations for `simp`, with `val`, `fin` and `did` kept shut. What carries it: induction on the program, once.
 use Rattle.std.proofs.Common.{Ok, Err, ◌≡◌, refl, sym, ◌∙◌, ap, Bool, true, false, cond, ◌&&◌, List, ◌∷◌, ℕ, zero, suc, ◌+◌, ◌-◌, ◌≤◌, ◌<◌, arith, add-zero, le_of_suc-le-suc, not-suc-le-zero, get_or, ltb, leb, ltb-true, leb-true}
-use Rattle.std.proofs.lemmas.Bool.{false≢true}
+use Rattle.std.proofs.lemmas.Bool.{false≢true, and_parts}
 use Rattle.manual.specs.declared.Machine.{Machine}
 use Rattle.manual.specs.declared.Answer.TheVariants.{Executed, Stopped}
 use Rattle.manual.specs.declared.Stop.{Stop}
@@ -10,6 +10,22 @@ use Rattle.manual.specs.Programs.{Prog, ret, rd, wr, val, fin, ◌>>=◌, rightw
 use Rattle.manual.specs.Formats.{reach, reach_right}
 use Rattle.manual.specs.Values.{bytes_of}
 use Rattle.manual.specs.Step.{Outcome, ended, moved, settle, given, did}
+
+-- ---- one of two, by a test
+
+pub cond_same : {A : Type 0} (b : Bool) (x : A) → cond b x x ≡ x
+cond_same true x = refl
+cond_same false x = refl
+
+-- what is made of the one that is picked
+pub cond_map : {A B : Type 0} (f : A → B) (b : Bool) (x y : A) → f (cond b x y) ≡ cond b (f x) (f y)
+cond_map f true x y = refl
+cond_map f false x y = refl
+
+-- the same of three, by two tests
+pub cond_map_2 : {A B : Type 0} (f : A → B) (b c : Bool) (x y z : A) → f (cond b (cond c x y) z) ≡ cond b (cond c (f x) (f y)) (f z)
+cond_map_2 f true c x y z = cond_map f c x y
+cond_map_2 f false c x y z = refl
 
 -- ---- one program after another
 
@@ -82,8 +98,7 @@ module _ (m : Machine) (s : List ℕ) where
   from_wr l v p σ = refl
 
   pub from_cond : (b : Bool) (p q : Prog Out) (σ : State) → from m s (cond b p q) σ ≡ cond b (from m s p σ) (from m s q σ)
-  from_cond true p q σ = refl
-  from_cond false p q σ = refl
+  from_cond b p q σ = cond_map (λ (r : Prog Out). from m s r σ) b p q
 
   pub from_clear : (p : Prog Out) (σ : State) → from m s (unless (Ok tt) p) σ ≡ from m s p σ
   unfolding unless
@@ -107,17 +122,19 @@ unfolding unless
 unless_clear (Ok tt) p e = refl
 unless_clear (Err x) p e = absurd (false≢true e)
 
+-- what holds of two ways holds of the one and then the other
+pub both_hold : (P : Way → Type 0) (v w : Way) → P v → P w → P (and_then v w)
+unfolding and_then
+both_hold P (Ok tt) w h k = k
+both_hold P (Err x) w h k = h
+
 pub clear_both : (v w : Way) → clear (and_then v w) ≡ (clear v && clear w)
 unfolding and_then
 clear_both (Ok tt) w = refl
 clear_both (Err x) w = refl
 
-pub and_both : (x y : Bool) → (x && y) ≡ true → (x ≡ true) × (y ≡ true)
-and_both true y e = (refl, e)
-and_both false y e = absurd (false≢true e)
-
 pub both_clear : (v w : Way) → clear (and_then v w) ≡ true → (clear v ≡ true) × (clear w ≡ true)
-both_clear v w e = and_both (clear v) (clear w) (sym (clear_both v w) ∙ e)
+both_clear v w e = and_parts (clear v) (clear w) (sym (clear_both v w) ∙ e)
 
 -- an operand that is clear to be reached lies in storage
 clear_cond : (b : Bool) → clear (cond b (Ok tt) (Err OperandOutside)) ≡ true → b ≡ true
@@ -127,7 +144,7 @@ clear_cond false e = absurd (false≢true e)
 pub reach_clear : (size n a : ℕ) → clear (reach size n a) ≡ true → (a < size) × (n ≤ a + 1)
 unfolding reach
 reach_clear size n a e =
-    let h = and_both (ltb a size) (leb n (a + 1)) (clear_cond (ltb a size && leb n (a + 1)) e) in
+    let h = and_parts (ltb a size) (leb n (a + 1)) (clear_cond (ltb a size && leb n (a + 1)) e) in
     (ltb-true a size h.0, leb-true n (a + 1) h.1)
 
 pub reach_right_clear : (size n a : ℕ) → clear (reach_right size n a) ≡ true → a + n ≤ size

@@ -1,5 +1,6 @@
 -- Laws on runs: one step more, the count, a run that stopped, a run in two parts. What carries it: induction on the budget, over the answer's three cases.
-use Rattle.std.proofs.Common.{◌≡◌, refl, sym, ap, ◌∙◌, Bool, true, false, cond, List, ℕ, zero, suc, ◌+◌, ◌-◌, ◌≤◌, arith, add-zero, add-suc, add-sub_of_le, add-one, length, leb-true, le-leb}
+use Rattle.std.proofs.Common.{◌≡◌, refl, sym, ap, ◌∙◌, true, cond, List, ℕ, zero, suc, ◌+◌, ◌-◌, ◌≤◌, arith, add-zero, add-suc, add-sub_of_le, add-one, length, leb-true, le-leb}
+use Rattle.std.proofs.lemmas.Bool.{cond_both}
 use Rattle.manual.specs.declared.Machine.{Machine}
 use Rattle.manual.specs.declared.Refusal.{Refusal}
 use Rattle.manual.specs.declared.Refusal.TheVariants.{SizeRefused, BudgetRefused, StatusRefused}
@@ -13,6 +14,7 @@ use Rattle.manual.specs.TheMachine.{size_allowed, budget_allowed, status_allowed
 use Rattle.manual.specs.Step.{Outcome, outcome, ended, inner_step}
 use Rattle.manual.specs.When.{Entered}
 use Rattle.manual.specs.Run.{RanOutcome, ran, count_after, counted, more_of, more, turns_of, run_of}
+use Rattle.manual.proofs.Running.{cond_map_2}
 
 -- a run's outcome without its count
 abbrev pub uncounted : RanOutcome → Outcome
@@ -51,6 +53,12 @@ not_stopped QRefused e = omega arith
 not_stopped OperandOutside e = omega arith
 not_stopped DigitRefused e = omega arith
 not_stopped (Supervisor q r) e = omega arith
+
+pub ended_refused : {a : Answer} {x : Refusal} → a ≡ Refused x → number_of a ≡ 0 → ⊥
+ended_refused {x = x} e z = not_refused x (sym (ap number_of e) ∙ z)
+
+pub ended_stopped : {a : Answer} {x : Stop} → a ≡ Stopped x → number_of a ≡ 0 → ⊥
+ended_stopped {x = x} e z = not_stopped x (sym (ap number_of e) ∙ z)
 
 pub executed : (a : Answer) → number_of a ≡ 0 → a ≡ Executed
 executed Executed e = refl
@@ -103,8 +111,8 @@ within_of k o Executed e w =
       most = count_most k o.gave.ended.steps (inner_step o.gave.machine o.storage).gave.answer w.most;
       all = λ z. count_all k o.gave.ended.steps (inner_step o.gave.machine o.storage).gave.answer z (w.all (ap number_of e));
     }
-within_of k o (Refused x) e w = record { most = omega (arith, w.most); all = λ z. absurd (not_refused x (sym (ap number_of e) ∙ z)) }
-within_of k o (Stopped x) e w = record { most = omega (arith, w.most); all = λ z. absurd (not_stopped x (sym (ap number_of e) ∙ z)) }
+within_of k o (Refused x) e w = record { most = omega (arith, w.most); all = λ z. absurd (ended_refused e z) }
+within_of k o (Stopped x) e w = record { most = omega (arith, w.most); all = λ z. absurd (ended_stopped e z) }
 
 within_more : (k : ℕ) (o : RanOutcome) → Within k o → Within (suc k) (more o)
 unfolding more
@@ -138,8 +146,8 @@ add_more j p = add_more_of j p p.gave.ended.answer
 then_more_of : (o : RanOutcome) (k : ℕ) (a : Answer) → o.gave.ended.answer ≡ a → then_run_of a o (suc k) ≡ more (then_run_of a o k)
 unfolding turns_of
 then_more_of o k Executed e = add_more o.gave.ended.steps (turns_of o.gave.machine o.storage k)
-then_more_of o k (Refused x) e = sym (more_stays o (λ z. not_refused x (sym (ap number_of e) ∙ z)))
-then_more_of o k (Stopped x) e = sym (more_stays o (λ z. not_stopped x (sym (ap number_of e) ∙ z)))
+then_more_of o k (Refused x) e = sym (more_stays o (ended_refused e))
+then_more_of o k (Stopped x) e = sym (more_stays o (ended_stopped e))
 
 -- ---- turns
 
@@ -214,24 +222,10 @@ budget_below k b le h = let l : b ≤ 16777216 = leb-true b 16777216 h in le-leb
 module _ (m : Machine) (s : List ℕ) where
   enter_more : (o : RanOutcome) → entering m s (more o) ≡ more (entering m s o)
   unfolding more
-  enter_more o = on (size_allowed (length s)) (status_allowed m.status)
-    where
-      on : (x y : Bool)
-          → cond x (cond y (more o) (ran m (Refused StatusRefused) 0 s)) (ran m (Refused SizeRefused) 0 s)
-          ≡ more (cond x (cond y o (ran m (Refused StatusRefused) 0 s)) (ran m (Refused SizeRefused) 0 s))
-      on true true = refl
-      on true false = refl
-      on false y = refl
+  enter_more o = sym (cond_map_2 more (size_allowed (length s)) (status_allowed m.status) o _ _)
 
   enter_then : (o : RanOutcome) (k : ℕ) → entering m s (then_run o k) ≡ then_run (entering m s o) k
-  enter_then o k = on (size_allowed (length s)) (status_allowed m.status)
-    where
-      on : (x y : Bool)
-          → cond x (cond y (then_run o k) (ran m (Refused StatusRefused) 0 s)) (ran m (Refused SizeRefused) 0 s)
-          ≡ then_run (cond x (cond y o (ran m (Refused StatusRefused) 0 s)) (ran m (Refused SizeRefused) 0 s)) k
-      on true true = refl
-      on true false = refl
-      on false y = refl
+  enter_then o k = sym (cond_map_2 (λ (r : RanOutcome). then_run r k) (size_allowed (length s)) (status_allowed m.status) o _ _)
 
   allowed_enters : (b : ℕ) → budget_allowed b ≡ true → run_of m s b ≡ entering m s (turns_of m s b)
   unfolding run_of
@@ -245,14 +239,10 @@ module _ (m : Machine) (s : List ℕ) where
   -- what holds of the turns and of every refusal holds of the run
   pub run_by : (P : RanOutcome → Type 0) (b : ℕ) → P (turns_of m s b) → ((x : Refusal) → P (ran m (Refused x) 0 s)) → P (run_of m s b)
   unfolding run_of
-  run_by P b t r = on (size_allowed (length s)) (budget_allowed b) (status_allowed m.status)
-    where
-      on : (x y z : Bool)
-          → P (cond x (cond y (cond z (turns_of m s b) (ran m (Refused StatusRefused) 0 s)) (ran m (Refused BudgetRefused) 0 s)) (ran m (Refused SizeRefused) 0 s))
-      on true true true = t
-      on true true false = r StatusRefused
-      on true false z = r BudgetRefused
-      on false y z = r SizeRefused
+  run_by P b t r =
+      cond_both (size_allowed (length s)) _ _ P
+      (λ _. cond_both (budget_allowed b) _ _ P (λ _. cond_both (status_allowed m.status) _ _ P (λ _. t) (λ _. r StatusRefused)) (λ _. r BudgetRefused))
+      (λ _. r SizeRefused)
 
   -- a run of budget 0 that isn't refused returns 0 and 0 steps, with machine and storage as they were
   pub run_of_zero : ((x : Refusal) → (run_of m s 0).gave.ended.answer ≡ Refused x → ⊥) → run_of m s 0 ≡ ran m Executed 0 s

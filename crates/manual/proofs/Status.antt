@@ -1,6 +1,6 @@
 -- The status: its order is set, a bit goes on or off, what isn't named stays, and below 64 it stays there. What carries it: each bit is told by a division.
 use Rattle.std.proofs.Common.{◌≡◌, refl, ap, Bool, true, false, cond, not, ◌||◌, ℕ, ◌+◌, ◌-◌, ◌/◌, ◌%◌, ◌<◌, arith, eqb, ℤ, nat_abs, eq-eqb, ne_eqb, eqb-true}
-use Rattle.std.proofs.lemmas.Bool.{eqb-false}
+use Rattle.std.proofs.lemmas.Bool.{eqb-false, cond_both}
 use Rattle.manual.specs.declared.Columns.{Columns}
 use Rattle.manual.specs.TheMachine.{binary_overflow, test_false, decimal_overflow, equal, low, high, is_on, turn_on, turn_off, set_order}
 use Rattle.manual.specs.Values.{overflows, negative, sign_order, cut_to}
@@ -9,13 +9,8 @@ use Rattle.manual.specs.Logical.{sum_status, difference_status}
 use Rattle.manual.specs.Registers.{loaded_status}
 use Rattle.manual.specs.Branches.{off_if_picked, after_test}
 
--- what holds of two holds of the one that is picked
-pub pick : {A : Type 0} (P : A → Type 0) (b : Bool) (x y : A) → P x → P y → P (cond b x y)
-pick P true x y h k = h
-pick P false x y h k = k
-
 pub below : (n : ℕ) (b : Bool) (x y : ℕ) → x < n → y < n → cond b x y < n
-below n b x y h k = pick (λ (z : ℕ). z < n) b x y h k
+below n b x y h k = cond_both b x y (λ (z : ℕ). z < n) (λ _. h) (λ _. k)
 
 -- ---- an order fits in its three bits
 

@@ -1,6 +1,6 @@
 -- A step gives a number exactly when the table's row for it holds. What carries it: a step's answer is that of the order of the stops, and decoding's tests one by one.
 use Rattle.std.proofs.Common.{Ok, Err, Option, Some, None, ◌≡◌, refl, ap, ◌∙◌, subst, Bool, true, false, cond, ◌&&◌, List, ◌↔◌, ℕ, ◌+◌, ◌-◌, ◌/◌, ◌<◌, length, get_or, leb, ltb, eqb, leb-true, leb-false, ltb-true, ltb-false, le-leb, lt-ltb, le-ltb}
-use Rattle.std.proofs.lemmas.Bool.{lt-leb}
+use Rattle.std.proofs.lemmas.Bool.{lt-leb, cond_both}
 use Rattle.manual.specs.declared.Machine.{Machine}
 use Rattle.manual.specs.declared.Operation.{Operation}
 use Rattle.manual.specs.declared.Operation.TheVariants.{Zaz, Az, Sz, Mvx, Ed, Itc, Mvc, Clc, Alc, Slc, St, L, A, S, Tbn, Tbf, Sbn, Sbf, Mvi, Cli, Sli, Bc, Jc, La, Svc}
@@ -19,6 +19,7 @@ use Rattle.manual.specs.Step.{step_of}
 use Rattle.manual.specs.Stops.{fields_of, outside, further, barred, barred_in, barred_at}
 use Rattle.manual.specs.When.{Taken, opcode_at, length_at, Whole, When}
 use Rattle.manual.proofs.Answered.{answer_of, step_answer}
+use Rattle.manual.proofs.Running.{both_hold}
 
 -- ---- what may stand in an operation's way: 7, 8, or a call of SVC
 
@@ -29,17 +30,10 @@ data Kind (op : Operation) : Way → Type 0 where
   is_call : (q r : ℕ) → op ≡ Svc → Kind op (Err (Supervisor q r))
 
 kind_range : (op : Operation) (b : Bool) → Kind op (cond b (Ok tt) (Err OperandOutside))
-kind_range op true = is_clear
-kind_range op false = is_outside
+kind_range op b = cond_both b _ _ (Kind op) (λ _. is_clear) (λ _. is_outside)
 
 kind_digits : (op : Operation) (b : Bool) → Kind op (cond b (Ok tt) (Err DigitRefused))
-kind_digits op true = is_clear
-kind_digits op false = is_digit
-
-kind_then : (op : Operation) (v w : Way) → Kind op v → Kind op w → Kind op (and_then v w)
-unfolding and_then
-kind_then op (Ok tt) w h k = k
-kind_then op (Err x) w h k = h
+kind_digits op b = cond_both b _ _ (Kind op) (λ _. is_clear) (λ _. is_digit)
 
 module _ (op : Operation) where
   k_reach : (size n a : ℕ) → Kind op (reach size n a)
@@ -56,27 +50,20 @@ module _ (op : Operation) where
 
   k_source : (size n a : ℕ) → Kind op (source_reach size n a)
   unfolding source_reach
-  k_source size n a = on (eqb n 0)
-    where
-      on : (b : Bool) → Kind op (cond b (Ok tt) (reach size n a))
-      on true = is_clear
-      on false = k_reach size n a
-
-  k_both : (v w : Way) → Kind op v → Kind op w → Kind op (and_then v w)
-  k_both v w h k = kind_then op v w h k
+  k_source size n a = cond_both (eqb n 0) (Ok tt) (reach size n a) (Kind op) (λ _. is_clear) (λ _. k_reach size n a)
 
 k_outside : (op : Operation) (f : Fields) (size : ℕ) → Kind op (outside op f size)
 unfolding outside
-k_outside Zaz f size = k_both Zaz _ _ (k_reach Zaz _ _ _) (k_reach Zaz _ _ _)
-k_outside Az f size = k_both Az _ _ (k_reach Az _ _ _) (k_reach Az _ _ _)
-k_outside Sz f size = k_both Sz _ _ (k_reach Sz _ _ _) (k_reach Sz _ _ _)
-k_outside Mvx f size = k_both Mvx _ _ (k_reach Mvx _ _ _) (k_reach Mvx _ _ _)
+k_outside Zaz f size = both_hold (Kind Zaz) _ _ (k_reach Zaz _ _ _) (k_reach Zaz _ _ _)
+k_outside Az f size = both_hold (Kind Az) _ _ (k_reach Az _ _ _) (k_reach Az _ _ _)
+k_outside Sz f size = both_hold (Kind Sz) _ _ (k_reach Sz _ _ _) (k_reach Sz _ _ _)
+k_outside Mvx f size = both_hold (Kind Mvx) _ _ (k_reach Mvx _ _ _) (k_reach Mvx _ _ _)
 k_outside Ed f size = k_reach Ed _ _ _
-k_outside Itc f size = k_both Itc _ _ (k_right Itc _ _ _) (k_reach Itc _ _ _)
-k_outside Mvc f size = k_both Mvc _ _ (k_reach Mvc _ _ _) (k_reach Mvc _ _ _)
-k_outside Clc f size = k_both Clc _ _ (k_reach Clc _ _ _) (k_reach Clc _ _ _)
-k_outside Alc f size = k_both Alc _ _ (k_reach Alc _ _ _) (k_reach Alc _ _ _)
-k_outside Slc f size = k_both Slc _ _ (k_reach Slc _ _ _) (k_reach Slc _ _ _)
+k_outside Itc f size = both_hold (Kind Itc) _ _ (k_right Itc _ _ _) (k_reach Itc _ _ _)
+k_outside Mvc f size = both_hold (Kind Mvc) _ _ (k_reach Mvc _ _ _) (k_reach Mvc _ _ _)
+k_outside Clc f size = both_hold (Kind Clc) _ _ (k_reach Clc _ _ _) (k_reach Clc _ _ _)
+k_outside Alc f size = both_hold (Kind Alc) _ _ (k_reach Alc _ _ _) (k_reach Alc _ _ _)
+k_outside Slc f size = both_hold (Kind Slc) _ _ (k_reach Slc _ _ _) (k_reach Slc _ _ _)
 k_outside St f size = k_reach St _ _ _
 k_outside L f size = k_reach L _ _ _
 k_outside A f size = k_reach A _ _ _
@@ -96,10 +83,10 @@ k_outside Svc f size = is_clear
 k_further : (op : Operation) (f : Fields) (s : List ℕ) → Kind op (further op f s)
 unfolding further
 k_further Zaz f s = k_digits Zaz _
-k_further Az f s = k_both Az _ _ (k_digits Az _) (k_digits Az _)
-k_further Sz f s = k_both Sz _ _ (k_digits Sz _) (k_digits Sz _)
+k_further Az f s = both_hold (Kind Az) _ _ (k_digits Az _) (k_digits Az _)
+k_further Sz f s = both_hold (Kind Sz) _ _ (k_digits Sz _) (k_digits Sz _)
 k_further Mvx f s = is_clear
-k_further Ed f s = k_both Ed _ _ (k_source Ed _ _ _) (k_digits Ed _)
+k_further Ed f s = both_hold (Kind Ed) _ _ (k_source Ed _ _ _) (k_digits Ed _)
 k_further Itc f s = is_clear
 k_further Mvc f s = is_clear
 k_further Clc f s = is_clear
@@ -122,7 +109,7 @@ k_further La f s = is_clear
 k_further Svc f s = is_call _ _ refl
 
 k_barred : (op : Operation) (f : Fields) (s : List ℕ) → Kind op (barred op f s)
-k_barred op f s = k_both op _ _ (k_outside op f (length s)) (k_further op f s)
+k_barred op f s = both_hold (Kind op) _ _ (k_outside op f (length s)) (k_further op f s)
 
 -- SVC is barred by its own call, and by nothing else
 svc_barred : (op : Operation) (f : Fields) (s : List ℕ) → op ≡ Svc → barred op f s ≡ Err (Supervisor f.q f.r)

@@ -1,6 +1,6 @@
 -- A step's rule writes exactly the places that document 01's list has, in that order; a step that stops writes none.
 -- What carries it: how writing goes through each form of a program, then one line an operation.
-use Rattle.std.proofs.Common.{Ok, Err, Option, Some, None, ◌≡◌, refl, ap, ◌∙◌, Bool, true, false, cond, ◌&&◌, List, [], ◌∷◌, ◌++◌, ℕ, zero, suc, ◌+◌, ◌-◌, ◌/◌, arith, length, get_or, set}
+use Rattle.std.proofs.Common.{Ok, Err, Option, Some, None, ◌≡◌, refl, ap, ◌∙◌, Bool, true, false, cond, ◌&&◌, List, [], ◌∷◌, ◌++◌, ℕ, zero, suc, ◌+◌, ◌-◌, ◌/◌, arith, length, get_or, set, append-nil}
 use Rattle.manual.specs.declared.Machine.{Machine}
 use Rattle.manual.specs.declared.Operation.{Operation}
 use Rattle.manual.specs.declared.Operation.TheVariants.{Zaz, Az, Sz, Mvx, Ed, Itc, Mvc, Clc, Alc, Slc, St, L, A, S, Tbn, Tbf, Sbn, Sbf, Mvi, Cli, Sli, Bc, Jc, La, Svc}
@@ -10,7 +10,7 @@ use Rattle.manual.specs.declared.Form.{Form}
 use Rattle.manual.specs.declared.Fields.{Fields}
 use Rattle.manual.specs.declared.Columns.{Columns}
 use Rattle.manual.specs.Places.{Place, mem, State, state, look, put}
-use Rattle.manual.specs.Programs.{Prog, ret, rd, wr, val, fin, wrote, ◌>>=◌, rightward, leftward, Out, Given, clear, unless, Way}
+use Rattle.manual.specs.Programs.{Prog, ret, rd, wr, val, fin, wrote, ◌>>=◌, rightward, leftward, Out, clear, unless, Way}
 use Rattle.manual.specs.Decode.{decode_of, fetch_named, fetch, Decoded}
 use Rattle.manual.specs.Zoned.{put_digits, put_zoned, put_result, zaz, combine}
 use Rattle.manual.specs.Edit.{takes_digit, put_edited, ends_scan, scan, mvx, ed, itc}
@@ -21,9 +21,9 @@ use Rattle.manual.specs.Branches.{branch, jump, load_address, call}
 use Rattle.manual.specs.Step.{exec, addressed, perform, follow, step, given}
 use Rattle.manual.specs.Stops.{address_of, fields_of, outside, further, barred}
 use Rattle.manual.specs.Reads.{field, span, when, the20s, before, operand_writes, further_writes, writes_of}
-use Rattle.manual.proofs.Running.{val_leftward, fin_leftward, clear_both}
+use Rattle.manual.proofs.Running.{val_leftward, fin_leftward, clear_both, cond_same, cond_map}
 use Rattle.manual.proofs.Fetched.{val_fetch, fin_fetch}
-use Rattle.manual.proofs.Exact.{before_set}
+use Rattle.manual.proofs.Exact.{before_set, setting}
 
 -- ---- the forms of a program
 
@@ -41,8 +41,7 @@ module _ {X : Type 0} where
   w_wr l v p σ = refl
 
   pub w_cond : (b : Bool) (p q : Prog X) (σ : State) → wrote (cond b p q) σ ≡ cond b (wrote p σ) (wrote q σ)
-  w_cond true p q σ = refl
-  w_cond false p q σ = refl
+  w_cond b p q σ = cond_map (λ (r : Prog X). wrote r σ) b p q
 
 pub w_unless : (w : Way) (p : Prog Out) (σ : State) → wrote (unless w p) σ ≡ cond (clear w) (wrote p σ) []
 unfolding unless wrote
@@ -56,14 +55,6 @@ w_bind (rd l k) f σ = w_bind (k (look l σ)) f σ
 w_bind (wr l v p) f σ = rw (w_bind p f (put l v σ))
 
 -- ---- the lists
-
-pub append-nil : (xs : List Place) → xs ++ [] ≡ xs
-append-nil [] = refl
-append-nil (x ∷ xs) = rw (append-nil xs)
-
-pub cond_alike : (b : Bool) (xs : List Place) → cond b xs xs ≡ xs
-cond_alike true xs = refl
-cond_alike false xs = refl
 
 -- what stands behind two tests
 pub cond_and : (b c : Bool) (xs : List Place) → cond (b && c) xs [] ≡ cond b (cond c xs []) []
@@ -123,12 +114,9 @@ w_scan (suc n) a v σ =
     on true h k = refl
     on false h k = rw (h, k)
 
-pub ruleset writing = (w_ret, w_rd, w_wr, w_cond, w_unless, w_bind, w_leftward, w_copy, w_columns, w_put_zoned, w_put_edited, w_scan, append-nil, cond_alike, cond_and, clear_both, val_leftward, fin_leftward)
+pub ruleset writing = (w_ret, w_rd, w_wr, w_cond, w_unless, w_bind, w_leftward, w_copy, w_columns, w_put_zoned, w_put_edited, w_scan, append-nil, cond_same, cond_and, clear_both, val_leftward, fin_leftward)
 
 -- ---- the operations
-
-abbrev setting : State → ℕ → ℕ → Given
-setting σ iar status = record { size = length σ.bytes; iar = iar; status = status }
 
 abbrev listed : Operation → Fields → State → List Place
 listed op f σ = when (clear (barred op f σ.bytes)) (operand_writes op f σ.bytes)
@@ -183,7 +171,7 @@ module _ (size iar : ℕ) (σ : State) where
 
   w_fetch : wrote (fetch size iar) σ ≡ []
   unfolding fetch
-  w_fetch = simp (w_cond, w_ret, w_rd, w_named, cond_alike)
+  w_fetch = simp (w_cond, w_ret, w_rd, w_named, cond_same)
 
 -- a step writes what document 01's list has
 pub writes_exact : (m : Machine) (s : List ℕ) → wrote (step (given m s)) (state m s) ≡ writes_of m s

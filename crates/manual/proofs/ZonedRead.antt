@@ -1,9 +1,8 @@
 -- The field that AZ, SZ and ZAZ leave, read back, is the exact signed result cut to it. What carries it: the digits written from the right are those of the cut size.
 use Rattle.std.proofs.Common.{Ok, ◌≡◌, refl, sym, ◌∙◌, ap, Bool, true, false, cond, not, ◌&&◌, ◌||◌, List, ◌↔◌, ◌≢◌, ℕ, zero, suc, ◌+◌, ◌-◌, ◌*◌, ◌/◌, ◌%◌, ◌^◌, ◌≤◌, ◌<◌, arith, mod-eq_of_lt, length, get_or, set, length-set, get_or-set_same, get_or-set_other, eqb, leb, ℤ, pos, negsuc, nat_abs, ◌+ℤ◌, ◌-ℤ◌, leb-true, leb-false, le-leb}
-use Rattle.std.proofs.lemmas.Bool.{false≢true}
+use Rattle.std.proofs.lemmas.Bool.{and_parts}
 use Rattle.std.proofs.Math.Nat.{zero-mod, mod-mod, sub-zero}
 use Rattle.std.proofs.Math.Dec.{eqb-suc-zero}
-use Rattle.std.proofs.Math.IntN.{pos-ne-negsuc}
 use Rattle.manual.specs.declared.Machine.{Machine}
 use Rattle.manual.specs.declared.Fields.{Fields}
 use Rattle.manual.specs.declared.Answer.{Answer}
@@ -14,7 +13,7 @@ use Rattle.manual.specs.TheMachine.{decimal_overflow, equal, low, high, is_on}
 use Rattle.manual.specs.Values.{bytes_of, digit, zone, size, minus, signed, value, all_digits, digits_of, negative, cut, overflows, left_minus, cut_to, sign_order}
 use Rattle.manual.specs.Zoned.{l1, l2, zoned_reach, put_digits, put_zoned, zoned_status, put_result, zaz, combine, az, sz}
 use Rattle.manual.specs.Step.{Outcome, ended, moved, given, did, Gives}
-use Rattle.manual.proofs.Running.{from, did_from, from_bind, from_go, val_leftward, fin_leftward, unless_clear, and_both, both_clear, reach_clear}
+use Rattle.manual.proofs.Running.{from, did_from, from_bind, from_go, val_leftward, fin_leftward, unless_clear, both_clear, reach_clear}
 use Rattle.manual.proofs.Status.{sign_small, order_set, order_leaves, above_same, overflow_set}
 use Rattle.manual.proofs.FieldBytes.{Outside, written, outside_apart, written_length, written_outside, written_inside, written_same, written-first, written_once}
 use Rattle.manual.proofs.Digits.{digit_at, digit_units, digit_next, digit_small, digit-cut, cut_next}
@@ -134,7 +133,7 @@ minus_read t (suc n) a h = refl
 pub digits_apart : (t : List ℕ) (n a : ℕ) → all_digits (bytes_of t (suc n) a) ≡ true → (digit (get_or t a 0) ≤ 9) × (all_digits (bytes_of t n (a - 1)) ≡ true)
 unfolding all_digits bytes_of
 digits_apart t n a good =
-    let h = and_both (leb (digit (get_or t a 0)) 9) (all_digits (bytes_of t n (a - 1))) good in
+    let h = and_parts (leb (digit (get_or t a 0)) 9) (all_digits (bytes_of t n (a - 1))) good in
     (leb-true (digit (get_or t a 0)) 9 h.0, h.1)
 
 units_of : (d k : ℕ) → d ≤ 9 → ((d + 10 * k) % 10 ≡ d) × ((d + 10 * k) / 10 ≡ k)
@@ -283,27 +282,20 @@ sign_plus : (k : ℕ) → sign_order (pos (suc k)) ≡ high
 unfolding sign_order
 sign_plus k = rw eqb-suc-zero
 
--- two of the three are never the same, nor is a number beside zero zero
-unlike : {x y z : ℕ} → x ≡ y → x ≡ z → (y ≡ z → ⊥) → ⊥
-unlike p q ne = ne (sym p ∙ q)
-
-not_zero : (k : ℕ) → pos (suc k) ≢ pos 0
-not_zero k e = let z : suc k ≡ 0 = ap nat_abs e in omega arith
-
 pub sign_equal : (x : ℤ) → (sign_order x ≡ equal) ↔ (x ≡ pos 0)
 sign_equal (pos zero) = (λ e. refl, λ e. unfold sign_order in refl)
-sign_equal (pos (suc k)) = (λ e. absurd (unlike (sign_plus k) e (λ q. omega arith)), λ e. absurd (not_zero k e))
-sign_equal (negsuc k) = (λ e. absurd (unlike (sign_minus k) e (λ q. omega arith)), λ e. absurd (pos-ne-negsuc 0 k (sym e)))
+sign_equal (pos (suc k)) = (λ e. absurd (omega (arith, e, sign_plus k)), λ e. cc)
+sign_equal (negsuc k) = (λ e. absurd (omega (arith, e, sign_minus k)), λ e. cc)
 
 pub sign_low : (x : ℤ) → (sign_order x ≡ low) ↔ (negative x ≡ true)
-sign_low (pos zero) = (λ e. absurd (unlike ((sign_equal (pos 0)).1 refl) e (λ q. omega arith)), λ e. absurd (false≢true e))
-sign_low (pos (suc k)) = (λ e. absurd (unlike (sign_plus k) e (λ q. omega arith)), λ e. absurd (false≢true e))
+sign_low (pos zero) = (λ e. absurd (omega (arith, e, (sign_equal (pos 0)).1 refl)), λ e. cc)
+sign_low (pos (suc k)) = (λ e. absurd (omega (arith, e, sign_plus k)), λ e. cc)
 sign_low (negsuc k) = (λ e. refl, λ e. sign_minus k)
 
 pub sign_high : (x : ℤ) → (sign_order x ≡ high) ↔ ((negative x ≡ false) × (x ≢ pos 0))
-sign_high (pos zero) = (λ e. absurd (unlike ((sign_equal (pos 0)).1 refl) e (λ q. omega arith)), λ e. absurd (e.1 refl))
-sign_high (pos (suc k)) = (λ e. (refl, not_zero k), λ e. sign_plus k)
-sign_high (negsuc k) = (λ e. absurd (unlike (sign_minus k) e (λ q. omega arith)), λ e. absurd (false≢true (sym e.0)))
+sign_high (pos zero) = (λ e. absurd (omega (arith, e, (sign_equal (pos 0)).1 refl)), λ e. absurd (e.1 refl))
+sign_high (pos (suc k)) = (λ e. (refl, λ q. cc), λ e. sign_plus k)
+sign_high (negsuc k) = (λ e. absurd (omega (arith, e, sign_minus k)), λ e. cc)
 
 -- ---- the instructions
 
