@@ -20,28 +20,28 @@ use Rattle.manual.proofs.FieldBytes.{Bytes, bytes_length, bytes_of_lem}
 
 pub order_equal : (x y : ℕ) → x ≡ y → order_of x y ≡ equal
 unfolding order_of
-order_equal x y h = rw (eq-eqb x y h)
+order_equal x y h = grind (arith, nat_tests)
 
 pub order_low : (x y : ℕ) → x < y → order_of x y ≡ low
 unfolding order_of
-order_low x y h = rw (ne_eqb x y (λ e. omega arith), lt-ltb x y h)
+order_low x y h = grind (arith, nat_tests)
 
 pub order_high : (x y : ℕ) → y < x → order_of x y ≡ high
 unfolding order_of
-order_high x y h = let k : y ≤ x = omega arith in rw (ne_eqb x y (λ e. omega arith), le-ltb x y k)
+order_high x y h = grind (arith, nat_tests)
 
 -- each order is told of just the numbers that stand so
 pub equal_told : (x y : ℕ) → (order_of x y ≡ equal) ↔ (x ≡ y)
 unfolding order_of
-equal_told x y = (λ e. grind (arith, nat_tests), order_equal x y)
+equal_told x y = grind (arith, nat_tests)
 
 pub low_told : (x y : ℕ) → (order_of x y ≡ low) ↔ (x < y)
 unfolding order_of
-low_told x y = (λ e. grind (arith, nat_tests), order_low x y)
+low_told x y = grind (arith, nat_tests)
 
 pub high_told : (x y : ℕ) → (order_of x y ≡ high) ↔ (y < x)
 unfolding order_of
-high_told x y = (λ e. grind (arith, nat_tests), order_high x y)
+high_told x y = grind (arith, nat_tests)
 
 -- an order fits in its three bits
 pub order_small : (x y : ℕ) → order_of x y < 8

@@ -1,5 +1,6 @@
 -- The status: its order is set, a bit goes on or off, what isn't named stays, and below 64 it stays there. What carries it: each bit is told by a division.
 use Rattle.std.proofs.Common.{◌≡◌, refl, ap, Bool, true, false, cond, not, ◌||◌, ℕ, ◌+◌, ◌-◌, ◌/◌, ◌%◌, ◌<◌, arith, eqb, ℤ, nat_abs, eq-eqb, ne_eqb, eqb-true}
+use Rattle.std.proofs.lemmas.Bool.Decides.{nat_tests}
 use Rattle.std.proofs.lemmas.Bool.{eqb-false, cond_both}
 use Rattle.manual.specs.declared.Columns.{Columns}
 use Rattle.manual.specs.TheMachine.{binary_overflow, test_false, decimal_overflow, equal, low, high, is_on, turn_on, turn_off, set_order}
@@ -52,8 +53,7 @@ turned_on : (t : Bool) (x : ℕ) → is_on binary_overflow x ≡ t
     × (cond t x (x + binary_overflow) / 64 ≡ x / 64)
 turned_on true x e = (e, refl, refl)
 turned_on false x e =
-    let n = eqb-false (x / 32 % 2) 1 e in
-    (eq-eqb ((x + 32) / 32 % 2) 1 (omega arith), omega arith, omega arith)
+    (grind (arith, nat_tests), grind (arith, nat_tests), grind (arith, nat_tests))
 
 turned_off : (t : Bool) (x : ℕ) → is_on binary_overflow x ≡ t
     → (is_on binary_overflow (cond t (x - binary_overflow) x) ≡ false)

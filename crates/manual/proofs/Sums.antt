@@ -1,5 +1,6 @@
 -- ALC and SLC give the sum and difference of two numbers modulo 256 to the L, with carry and order told. What carries it: each column keeps the sum so far.
 use Rattle.std.proofs.Common.{◌≡◌, refl, sym, ◌∙◌, ap, subst, ◌⊎◌, inl, inr, Bool, true, false, cond, not, ◌&&◌, List, [], ◌∷◌, ℕ, zero, suc, ◌+◌, ◌-◌, ◌*◌, ◌/◌, ◌%◌, ◌^◌, ◌≤◌, ◌<◌, mul_left_comm, mod-lt, mod-eq_of_lt, suc-mul, add-zero, arith, eqb, leb, ltb, lit<, lit≤, length, get_or, set, length-set, get_or-set_same, get_or-set_other, lt-ltb, le-ltb, le-leb, ne_eqb}
+use Rattle.std.proofs.lemmas.Bool.Decides.{nat_tests}
 use Rattle.std.proofs.lemmas.Bool.{lt-leb}
 use Rattle.std.proofs.Math.Bool.{and_assoc, and-true, not-not}
 use Rattle.std.proofs.Math.Decide.{dec_lt}
@@ -136,9 +137,7 @@ module _ (column : ℕ → ℕ → ℕ → Column) where
 -- ---- every result byte is zero where the result is
 
 zero_digits : (x y : ℕ) → eqb (x + 256 * y) 0 ≡ (eqb x 0 && eqb y 0)
-zero_digits zero zero = refl
-zero_digits zero (suc y) = rw (ne_eqb (0 + 256 * suc y) 0 (λ e. omega arith), ne_eqb (suc y) 0 (λ e. omega arith))
-zero_digits (suc x) y = rw (ne_eqb (suc x + 256 * y) 0 (λ e. omega arith), ne_eqb (suc x) 0 (λ e. omega arith))
+zero_digits x y = grind (arith, nat_tests)
 
 pub columns_clear : (column : ℕ → ℕ → ℕ → Column) (s : List ℕ) (n a b : ℕ) (c : Columns) → a < length s → n ≤ a + 1
     → (columns_give column s n a b c).clear ≡ (c.clear && eqb (number (bytes_of (columns_bytes column s n a b c) n a)) 0)
@@ -169,15 +168,10 @@ columns_sum s (suc n) a b c l h =
 -- ---- the difference, whatever overlaps
 
 subtracted_keeps : (x y c : ℕ) → x < 256 → y < 256 → c ≤ 1 → (subtracted x y c).byte + (y + c) ≡ x + 256 * (subtracted x y c).over
-subtracted_keeps x y c h k l = go (dec_lt x (y + c))
-  where
-    go : Dec (x < y + c) → (subtracted x y c).byte + (y + c) ≡ x + 256 * (subtracted x y c).over
-    go (yes e) = rw (lt-ltb x (y + c) e) (omega arith)
-    go (no e) = let f : y + c ≤ x = omega arith in rw (le-ltb x (y + c) f) (omega arith)
+subtracted_keeps x y c h k l = grind (arith, nat_tests)
 
 one_or_none : (t : Bool) → cond t 1 0 ≤ 1
-one_or_none true = lit≤ tt
-one_or_none false = lit≤ tt
+one_or_none t = grind (arith, nat_tests)
 
 borrows_one : (x y c : ℕ) → (subtracted x y c).over ≤ 1
 borrows_one x y c = one_or_none (ltb x (y + c))
@@ -259,13 +253,11 @@ left_of : (r o p x : ℕ) → r + o * p ≡ x → r < p → x % p ≡ r
 left_of r o p x e h = rw (← e, add-mul-mod_self_right r o p) (mod-eq_of_lt h)
 
 carried_over : (r o p x : ℕ) → r + o * p ≡ x → r < p → eqb o 0 ≡ not (leb p x)
-carried_over r zero p x e h = rw (lt-leb p x (omega arith))
-carried_over r (suc o) p x e h = let k : p ≤ x = omega (arith, suc-mul o p) in rw (ne_eqb (suc o) 0 (λ q. omega arith), le-leb p x k)
+carried_over r zero p x e h = grind (arith, nat_tests)
+carried_over r (suc o) p x e h = grind (arith, nat_tests, suc-mul o p)
 
 carry_order : (z t : Bool) → cond z equal (cond (not t) low high) ≡ cond z equal (cond t high low)
-carry_order true t = refl
-carry_order false true = refl
-carry_order false false = refl
+carry_order z t = grind (arith, nat_tests)
 
 sum_status_lem : (before p x : ℕ) (z t : Bool) → t ≡ not (leb p x) → z ≡ eqb (x % p) 0
     → SumTold p x before (set_order (cond z equal (cond t low high)) (cond t (turn_off binary_overflow before) (turn_on binary_overflow before)))
