@@ -127,19 +127,13 @@ abbrev pub BoundedWay : Way → Type 0
 BoundedWay (Ok tt) = Unit
 BoundedWay (Err x) = BoundedStop x
 
-plain_outside : BoundedStop OperandOutside
-plain_outside = omega arith
-
-plain_digit : BoundedStop DigitRefused
-plain_digit = omega arith
-
 pub way_reach : (size n a : ℕ) → BoundedWay (reach size n a)
 unfolding reach
-way_reach size n a = cond_both (ltb a size && leb n (a + 1)) (Ok tt) (Err OperandOutside) BoundedWay (λ _. tt) (λ _. plain_outside)
+way_reach size n a = cond_both (ltb a size && leb n (a + 1)) (Ok tt) (Err OperandOutside) BoundedWay (λ _. tt) (λ _. omega arith)
 
 pub way_reach_right : (size n a : ℕ) → BoundedWay (reach_right size n a)
 unfolding reach_right
-way_reach_right size n a = cond_both (leb (a + n) size) (Ok tt) (Err OperandOutside) BoundedWay (λ _. tt) (λ _. plain_outside)
+way_reach_right size n a = cond_both (leb (a + n) size) (Ok tt) (Err OperandOutside) BoundedWay (λ _. tt) (λ _. omega arith)
 
 pub way_source : (size n a : ℕ) → BoundedWay (source_reach size n a)
 unfolding source_reach
@@ -147,7 +141,7 @@ way_source size n a = cond_both (eqb n 0) (Ok tt) (reach size n a) BoundedWay (�
 
 pub way_digits : (bs : List ℕ) → BoundedWay (digits_of bs)
 unfolding digits_of
-way_digits bs = cond_both (all_digits bs) (Ok tt) (Err DigitRefused) BoundedWay (λ _. tt) (λ _. plain_digit)
+way_digits bs = cond_both (all_digits bs) (Ok tt) (Err DigitRefused) BoundedWay (λ _. tt) (λ _. omega arith)
 
 pub keeps_unless : (w : Way) {p : Prog Out} → BoundedWay w → Keeps BoundedOut p → Keeps BoundedOut (unless w p)
 unfolding unless

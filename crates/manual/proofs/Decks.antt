@@ -1,8 +1,9 @@
 -- A machine written as a deck and read again is that machine; an accepted deck read and written again is that deck; and how long a deck is.
 -- What carries it: one induction on the pages of a storage, and one on the records of an accepted deck.
-use Rattle.std.proofs.Common.{Ok, Err, ℕ, zero, suc, ◌+◌, ◌≤◌, ◌<◌, ◌-◌, ◌*◌, ◌/◌, ◌%◌, pred, Bool, true, false, cond, List, [], ◌∷◌, ◌++◌, append_assoc, ⊎_elim, ◌≡◌, refl, ap, sym, ◌∙◌, add-zero, zero-add, div-add-mod', arith, eqb-true, leb-true, le-leb, ltb-true, lt-ltb, eq-eqb, eqb, leb, lit<, length, get_or, take, drop, length-append, length-drop, take-append-drop, replicate, length-take-le, take_at, drop_at, drop-cons, get_or-drop}
+use Rattle.std.proofs.Common.{Ok, Err, ℕ, zero, suc, ◌+◌, ◌≤◌, ◌<◌, ◌-◌, ◌*◌, ◌/◌, ◌%◌, pred, Bool, true, false, cond, List, [], ◌∷◌, ◌++◌, append_assoc, ⊎_elim, ◌≡◌, refl, ap, sym, ◌∙◌, add-zero, zero-add, div-add-mod', arith, leb-true, le-leb, ltb-true, lt-ltb, eqb, leb, lit<, length, get_or, take, drop, length-append, length-drop, take-append-drop, replicate, length-take-le, take_at, drop_at, drop-cons, get_or-drop}
+use Rattle.std.proofs.lemmas.Bool.Decides.{nat_tests}
 use Rattle.std.proofs.lemmas.List.{nil_from_length}
-use Rattle.std.proofs.lemmas.Bool.{and_parts, cases_Bool, cond_both}
+use Rattle.std.proofs.lemmas.Bool.{cases_Bool, cond_both}
 use Rattle.std.proofs.Math.Seq.{take-append_seam, drop-append_seam}
 use Rattle.manual.specs.declared.Machine.{Machine}
 use Rattle.manual.specs.declared.DeckFault.{DeckFault}
@@ -43,22 +44,12 @@ deck_length m s = length_parts m s ∙ ap (λ (n : ℕ). 20 + n) (used_length (l
 -- an allowed size is 1 to 256 pages
 pub size_pages : (size : ℕ) → size_allowed size ≡ true → (size ≡ size / 256 * 256) × (1 ≤ size / 256) × (size / 256 ≤ 256)
 unfolding size_allowed
-size_pages size e =
-    let p = and_parts (leb 256 size) _ e in
-    let q = and_parts (leb size 65536) (eqb (size % 256) 0) p.1 in
-    let least = leb-true 256 size p.0 in
-    let most = leb-true size 65536 q.0 in
-    let whole = eqb-true (size % 256) 0 q.1 in
-    (omega arith, omega arith, omega arith)
+size_pages size e = grind (arith, nat_tests)
 
 -- the size that a deck names is allowed
 pub named_allowed : (last : ℕ) → last < 256 → size_allowed ((last + 1) * 256) ≡ true
 unfolding size_allowed
-named_allowed last h =
-    let least : 256 ≤ (last + 1) * 256 = omega arith in
-    let most : (last + 1) * 256 ≤ 65536 = omega arith in
-    let whole : (last + 1) * 256 % 256 ≡ 0 = omega arith in
-    rw (le-leb _ _ least, le-leb _ _ most, eq-eqb _ _ whole)
+named_allowed last h = grind (arith, nat_tests)
 
 -- ---- written, and read again
 

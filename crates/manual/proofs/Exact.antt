@@ -1,6 +1,8 @@
 -- A step's rule reads a place if and only if document 01's list has it: no more, no less, for every instruction and stop.
 -- What carries it: how reading goes through each form of a program, then one line an operation.
 use Rattle.std.proofs.Common.{Ok, Err, Option, Some, None, ◌≡◌, refl, ap, sym, ◌∙◌, Bool, true, false, cond, ◌||◌, List, [], ◌∷◌, ◌++◌, ℕ, zero, suc, ◌+◌, ◌-◌, ◌/◌, ◌<◌, min, arith, length, get_or, set, get_or-set_other, leb, ltb}
+use Rattle.std.proofs.lemmas.Bool.{cond_both}
+use Rattle.std.proofs.lemmas.Bool.Decides.{nat_tests}
 use Rattle.std.proofs.Math.Bool.{or-false, or_assoc}
 use Rattle.manual.specs.declared.Machine.{Machine}
 use Rattle.manual.specs.declared.Stop.TheVariants.{CutShort, QRefused}
@@ -83,10 +85,7 @@ e_copy zero a b σ x = refl
 e_copy (suc n) a b σ x = ap (λ (c : Bool). same (mem b) x || c) (e_copy n (a - 1) (b - 1) _ x)
 
 mix : (p q r s : Bool) → (p || (q || (r || s))) ≡ ((p || r) || (q || s))
-mix true q r s = refl
-mix false true true s = refl
-mix false true false s = refl
-mix false false r s = refl
+mix p q r s = grind (arith, nat_tests)
 
 pub e_columns : (column : ℕ → ℕ → ℕ → Column) (n a b : ℕ) (c : Columns) (σ : State) (x : Place)
     → reads (columns column n a b c) σ x ≡ (elem x (field n a) || elem x (field n b))
@@ -203,11 +202,7 @@ module _ (m : Machine) (s : List ℕ) (x : Place) where
 
 module _ (m : Machine) (s : List ℕ) (iar : ℕ) (x : Place) where
   whole_q : (f : Form) (op : Operation) (byte : ℕ → ℕ) → whole (with_q iar f op byte) ≡ true
-  whole_q f op byte = on (allowed op (byte 1))
-    where
-      on : (b : Bool) → whole (cond b (Ok (instruction_of iar f op byte)) (Err QRefused)) ≡ true
-      on true = refl
-      on false = refl
+  whole_q f op byte = cond_both (allowed op (byte 1)) (Ok (instruction_of iar f op byte)) (Err QRefused) (λ (d : Decoded). whole d ≡ true) (λ _. refl) (λ _. refl)
 
   -- the opcode byte and the later bytes of a form are its length of bytes
   all_bytes : (f : Form) → Sound f → (same (mem iar) x || elem x (span (f.length - 1) (iar + 1))) ≡ elem x (span f.length iar)

@@ -1,5 +1,6 @@
 -- Every operation, and the step as a whole, keeps the numbers below their limits. What carries it: `Keeps` through each part of a rule, then one operation a time.
-use Rattle.std.proofs.Common.{Ok, Err, Option, Some, None, Bool, true, false, cond, List, [], ◌∷◌, ℕ, zero, suc, ◌+◌, ◌-◌, ◌*◌, ◌/◌, ◌%◌, ◌<◌, arith, lt_of_le_of_lt, get_or, drop, eqb, ltb, leb, lit<, ℤ, ◌+ℤ◌, ◌-ℤ◌, bit_and}
+use Rattle.std.proofs.Common.{Ok, Err, Option, Some, None, Bool, List, [], ◌∷◌, ℕ, zero, suc, ◌+◌, ◌-◌, ◌/◌, ◌%◌, ◌<◌, arith, lt_of_le_of_lt, get_or, drop, eqb, ltb, leb, lit<, ℤ, ◌+ℤ◌, ◌-ℤ◌, bit_and}
+use Rattle.std.proofs.lemmas.Bool.Decides.{nat_tests}
 use Rattle.std.proofs.lemmas.Bool.{cond_both}
 use Rattle.std.proofs.lemmas.Nat.{or_lt, and_le_l}
 use Rattle.manual.specs.declared.Stop.TheVariants.{CutShort, OpcodeUnknown, QRefused, Supervisor}
@@ -27,7 +28,7 @@ use Rattle.manual.proofs.Status.{below, sign_small, order_below, test_below, sum
 use Rattle.manual.proofs.FieldBytes.{Bytes, cons_below}
 use Rattle.manual.proofs.Compared.{order_small}
 use Rattle.manual.proofs.Sums.{byte_added, byte_subtracted}
-use Rattle.manual.proofs.Bounds.{BoundedStop, BoundedOut, BoundedFields, BoundedInstruction, BoundedDecoded, Keeps, giving, reading, writing, keeps_bind, keeps_cond, BoundedWay, way_reach, way_reach_right, way_source, way_digits, keeps_unless}
+use Rattle.manual.proofs.Bounds.{BoundedOut, BoundedFields, BoundedInstruction, BoundedDecoded, Keeps, giving, reading, writing, keeps_bind, keeps_cond, BoundedWay, way_reach, way_reach_right, way_source, way_digits, keeps_unless}
 use Rattle.manual.proofs.Running.{both_hold}
 
 -- ---- the parts of the rules
@@ -60,10 +61,6 @@ keeps_columns column h zero a b c = giving tt
 keeps_columns column h (suc n) a b c =
     reading λ x hx. reading λ y hy. writing (h x y c.over) (keeps_columns column h n (a - 1) (b - 1) (onward c (column x y c.over)))
 
-sign_byte : (sign : Bool) (m : ℕ) → cond sign 0xD0 0xF0 + m % 10 < 256
-sign_byte true m = omega arith
-sign_byte false m = omega arith
-
 keeps_digits : (n a m : ℕ) → Keeps Any (put_digits n a m)
 unfolding put_digits
 keeps_digits zero a m = giving tt
@@ -72,7 +69,7 @@ keeps_digits (suc n) a m = writing (omega arith) (keeps_digits n (a - 1) (m / 10
 keeps_zoned : (n a : ℕ) (sign : Bool) (m : ℕ) → Keeps Any (put_zoned n a sign m)
 unfolding put_zoned
 keeps_zoned zero a sign m = giving tt
-keeps_zoned (suc n) a sign m = writing (sign_byte sign m) (keeps_digits n (a - 1) (m / 10))
+keeps_zoned (suc n) a sign m = writing (grind (arith, nat_tests)) (keeps_digits n (a - 1) (m / 10))
 
 keeps_edited : (ps ys : List ℕ) (a : ℕ) → Keeps Any (put_edited ps ys a)
 unfolding put_edited
@@ -88,12 +85,6 @@ half_below : (q x y : ℕ) → x < 256 → y < 256 → half_moved q x y < 256
 unfolding half_moved
 half_below q x y h k =
     below 256 (eqb q 0x00) _ _ (omega arith) (below 256 (eqb q 0x01) _ _ (omega arith) (below 256 (eqb q 0x02) _ _ (omega arith) (omega arith)))
-
-word_below : (n : ℕ) → n % 65536 < 65536
-word_below n = omega arith
-
-pair_below : (left right : ℕ) → left < 256 → right < 256 → left * 256 + right < 65536
-pair_below left right hl hr = omega arith
 
 going : {i x : ℕ} → i < 65536 → x < 64 → Keeps BoundedOut (ret (go i x))
 going {i} {x} h k = giving {x = go i x} (h, k)
@@ -144,7 +135,7 @@ module _ (f : Fields) (g : Given) (b : BoundedFields f) (h : g.status < 64) wher
   unfolding itc
   keeps_itc =
       keeps_unless _ (both_hold BoundedWay (reach_right g.size (f.q + 1) f.a1) (reach g.size 1 f.a2) (way_reach_right _ _ _) (way_reach _ _ _))
-      (reading λ v hv. keeps_bind (keeps_scan _ _ v hv) λ end t. writing (word_below end) goes)
+      (reading λ v hv. keeps_bind (keeps_scan _ _ v hv) λ end t. writing (omega arith) goes)
 
   keeps_mvc : Keeps BoundedOut (mvc f g)
   unfolding mvc
@@ -177,19 +168,19 @@ module _ (f : Fields) (g : Given) (b : BoundedFields f) (h : g.status < 64) wher
   keeps_load =
       keeps_unless _ (way_reach _ _ _)
       (reading λ right hr. reading λ left hl.
-      keeps_cond (is_status f.q) (going b.next (loaded_below right)) (writing (pair_below left right hl hr) goes))
+      keeps_cond (is_status f.q) (going b.next (loaded_below right)) (writing (omega arith) goes))
 
   keeps_add : Keeps BoundedOut (add f g)
   unfolding add
   keeps_add =
       reading λ v hv. keeps_unless _ (way_reach _ _ _)
-      (reading λ right hr. reading λ left hl. writing (word_below _) (going b.next (sum_below g.status _ h)))
+      (reading λ right hr. reading λ left hl. writing (omega arith) (going b.next (sum_below g.status _ h)))
 
   keeps_subtract : Keeps BoundedOut (subtract f g)
   unfolding subtract
   keeps_subtract =
       reading λ v hv. keeps_unless _ (way_reach _ _ _)
-      (reading λ right hr. reading λ left hl. writing (word_below _) (going b.next (difference_below g.status _ h)))
+      (reading λ right hr. reading λ left hl. writing (omega arith) (going b.next (difference_below g.status _ h)))
 
   -- the tests: each status is below 64
   keeps_tested : (status : ℕ → ℕ) → ((x : ℕ) → status x < 64) → Keeps BoundedOut (tested status f g)
@@ -279,7 +270,7 @@ module _ (f : Fields) (g : Given) (b : BoundedFields f) (h : g.status < 64) wher
 
 number_at_below : (base : Base) (byte : ℕ → ℕ) → ((k : ℕ) → byte k < 256) → (k : ℕ) → number_at base byte k < 65536
 number_at_below Absent byte h k = omega arith
-number_at_below Direct byte h k = pair_below (byte k) (byte (k + 1)) (h k) (h (k + 1))
+number_at_below Direct byte h k = omega (arith, h k, h (k + 1))
 number_at_below FromXr1 byte h k = omega (arith, h k)
 number_at_below FromXr2 byte h k = omega (arith, h k)
 number_at_below FromArr byte h k = omega (arith, h k)
@@ -294,41 +285,32 @@ instruction_below iar f op byte h =
       r = h 2;
       first = number_at_below (first_base f.group f.first (byte 0 % 16)) byte h 2;
       second = number_at_below f.second byte h (2 + width_of f.first);
-      next = word_below (iar + f.length);
+      next = omega arith;
     }
 
-plain_short : BoundedStop CutShort
-plain_short = omega arith
-
-plain_unknown : BoundedStop OpcodeUnknown
-plain_unknown = omega arith
-
-plain_q : BoundedStop QRefused
-plain_q = omega arith
-
 keeps_named : (size iar opcode : ℕ) (f : Form) (n : Option Operation) → opcode < 256 → Keeps BoundedDecoded (fetch_named size iar opcode f n)
-keeps_named size iar opcode f None h = giving {x = Err OpcodeUnknown} plain_unknown
+keeps_named size iar opcode f None h = giving {x = Err OpcodeUnknown} (omega arith)
 keeps_named size iar opcode f (Some op) h =
-    keeps_cond (ltb (size - iar) f.length) (giving {x = Err CutShort} plain_short)
+    keeps_cond (ltb (size - iar) f.length) (giving {x = Err CutShort} (omega arith))
     (keeps_bind (keeps_rightward (f.length - 1) (iar + 1)) λ later hs.
     giving (cond_both (allowed op (get_or (opcode ∷ later) 1 0)) (Ok (instruction_of iar f op (λ k. get_or (opcode ∷ later) k 0))) (Err QRefused) BoundedDecoded
-    (λ _. instruction_below iar f op (λ k. get_or (opcode ∷ later) k 0) (cons_below 256 opcode later h hs)) (λ _. plain_q)))
+    (λ _. instruction_below iar f op (λ k. get_or (opcode ∷ later) k 0) (cons_below 256 opcode later h hs)) (λ _. omega arith)))
 
 keeps_fetch : (size iar : ℕ) → Keeps BoundedDecoded (fetch size iar)
 unfolding fetch
 keeps_fetch size iar =
-    keeps_cond (leb size iar) (giving {x = Err CutShort} plain_short)
+    keeps_cond (leb size iar) (giving {x = Err CutShort} (omega arith))
     (reading λ opcode h. keeps_named size iar opcode (form_of (opcode / 16)) (named_of (form_of (opcode / 16)).group (opcode % 16)) h)
 
 keeps_addressed : (base : Base) (next d : ℕ) (k : ℕ → Prog Out) → d < 65536
     → ((a : ℕ) → a < 65536 → Keeps BoundedOut (k a)) → Keeps BoundedOut (addressed base next d k)
 keeps_addressed Absent next d k h t = t 0 (lit< tt)
 keeps_addressed Direct next d k h t = t d h
-keeps_addressed FromXr1 next d k h t = reading λ x hx. t (based x d) (word_below (x + d))
-keeps_addressed FromXr2 next d k h t = reading λ x hx. t (based x d) (word_below (x + d))
-keeps_addressed FromArr next d k h t = reading λ x hx. t (based x d) (word_below (x + d))
-keeps_addressed Forward next d k h t = t (based next d) (word_below (next + d))
-keeps_addressed Backward next d k h t = t (based next (65536 - d)) (word_below (next + (65536 - d)))
+keeps_addressed FromXr1 next d k h t = reading λ x hx. t (based x d) (omega arith)
+keeps_addressed FromXr2 next d k h t = reading λ x hx. t (based x d) (omega arith)
+keeps_addressed FromArr next d k h t = reading λ x hx. t (based x d) (omega arith)
+keeps_addressed Forward next d k h t = t (based next d) (omega arith)
+keeps_addressed Backward next d k h t = t (based next (65536 - d)) (omega arith)
 
 module _ (g : Given) (h : g.status < 64) where
   keeps_perform : (i : Instruction) → BoundedInstruction i → Keeps BoundedOut (perform i g)

@@ -1,5 +1,5 @@
 -- A run gives a number exactly when the table's row for it holds. What carries it: the first step that doesn't give 0, if there is one below the budget.
-use Rattle.std.proofs.Common.{◌≡◌, refl, ap, sym, ◌∙◌, subst, Bool, true, false, List, ◌↔◌, ℕ, zero, suc, ◌≤◌, ◌<◌, arith, add-one, length, ltb, ltb-true, ltb-false, lt-ltb}
+use Rattle.std.proofs.Common.{◌≡◌, refl, ap, sym, ◌∙◌, subst, Bool, true, false, List, ◌↔◌, ℕ, zero, suc, ◌<◌, arith, add-one, length, ltb, lt-ltb, below_more}
 use Rattle.manual.specs.declared.Machine.{Machine}
 use Rattle.manual.specs.declared.Answer.TheVariants.{Executed}
 use Rattle.manual.specs.TheMachine.{size_allowed, budget_allowed, status_allowed}
@@ -36,11 +36,7 @@ module _ (m : Machine) (s : List ℕ) where
     at_step : (k : ℕ) → k < b → AllRan m s k → (number_after m s k ≡ 0 → ⊥) → First b
 
   one_more_ran : (b : ℕ) → AllRan m s b → number_after m s b ≡ 0 → AllRan m s (suc b)
-  one_more_ran b h z j l = on (ltb j b) refl
-    where
-      on : (x : Bool) → ltb j b ≡ x → number_after m s j ≡ 0
-      on true e = h j (ltb-true _ _ e)
-      on false e = let g : b ≤ j = ltb-false _ _ e in let q : j ≡ b = omega arith in rw q z
+  one_more_ran b h z j l = below_more (λ (k : ℕ). number_after m s k ≡ 0) b h z j (omega arith)
 
   first : (b : ℕ) → First b
   first zero = none (λ j l. absurd (omega arith))

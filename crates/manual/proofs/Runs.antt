@@ -1,5 +1,6 @@
 -- Laws on runs: one step more, the count, a run that stopped, a run in two parts. What carries it: induction on the budget, over the answer's three cases.
-use Rattle.std.proofs.Common.{◌≡◌, refl, sym, ap, ◌∙◌, true, cond, List, ℕ, zero, suc, ◌+◌, ◌-◌, ◌≤◌, arith, add-zero, add-suc, add-sub_of_le, add-one, length, leb-true, le-leb}
+use Rattle.std.proofs.Common.{◌≡◌, refl, sym, ap, ◌∙◌, true, cond, List, ℕ, zero, suc, ◌+◌, ◌-◌, ◌≤◌, arith, add-zero, add-suc, add-sub_of_le, add-one, length}
+use Rattle.std.proofs.lemmas.Bool.Decides.{nat_tests}
 use Rattle.std.proofs.lemmas.Bool.{cond_both}
 use Rattle.manual.specs.declared.Machine.{Machine}
 use Rattle.manual.specs.declared.Refusal.{Refusal}
@@ -217,7 +218,7 @@ entering m s o =
 -- every budget below an allowed one is allowed
 pub budget_below : (k b : ℕ) → k ≤ b → budget_allowed b ≡ true → budget_allowed k ≡ true
 unfolding budget_allowed
-budget_below k b le h = let l : b ≤ 16777216 = leb-true b 16777216 h in le-leb k 16777216 (omega arith)
+budget_below k b le h = grind (arith, nat_tests)
 
 module _ (m : Machine) (s : List ℕ) where
   enter_more : (o : RanOutcome) → entering m s (more o) ≡ more (entering m s o)

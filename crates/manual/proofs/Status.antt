@@ -1,7 +1,7 @@
 -- The status: its order is set, a bit goes on or off, what isn't named stays, and below 64 it stays there. What carries it: each bit is told by a division.
-use Rattle.std.proofs.Common.{◌≡◌, refl, ap, Bool, true, false, cond, not, ◌||◌, ℕ, ◌+◌, ◌-◌, ◌/◌, ◌%◌, ◌<◌, arith, eqb, ℤ, nat_abs, eq-eqb, ne_eqb, eqb-true}
+use Rattle.std.proofs.Common.{◌≡◌, ap, Bool, cond, not, ◌||◌, ℕ, ◌-◌, ◌/◌, ◌%◌, ◌<◌, arith, eqb, ℤ, nat_abs}
 use Rattle.std.proofs.lemmas.Bool.Decides.{nat_tests}
-use Rattle.std.proofs.lemmas.Bool.{eqb-false, cond_both}
+use Rattle.std.proofs.lemmas.Bool.{cond_both}
 use Rattle.manual.specs.declared.Columns.{Columns}
 use Rattle.manual.specs.TheMachine.{binary_overflow, test_false, decimal_overflow, equal, low, high, is_on, turn_on, turn_off, set_order}
 use Rattle.manual.specs.Values.{overflows, negative, sign_order, cut_to}
@@ -15,14 +15,11 @@ below n b x y h k = cond_both b x y (λ (z : ℕ). z < n) (λ _. h) (λ _. k)
 
 -- ---- an order fits in its three bits
 
-one_below : (a b : Bool) (x y z : ℕ) → x < 8 → y < 8 → z < 8 → cond a x (cond b y z) < 8
-one_below a b x y z h j k = below 8 a x (cond b y z) h (below 8 b y z j k)
-
 pub order_fits : (z t : Bool) → cond z equal (cond t low high) < 8
-order_fits z t = one_below z t equal low high (omega arith) (omega arith) (omega arith)
+order_fits z t = grind (arith, nat_tests)
 
 pub borrow_fits : (z t : Bool) → cond z equal (cond t high low) < 8
-borrow_fits z t = one_below z t equal high low (omega arith) (omega arith) (omega arith)
+borrow_fits z t = grind (arith, nat_tests)
 
 pub sign_small : (x : ℤ) → sign_order x < 8
 unfolding sign_order
@@ -47,47 +44,20 @@ above_same x y e = (omega arith, omega arith)
 
 -- ---- binary overflow goes on or off, and no other bit moves
 
-turned_on : (t : Bool) (x : ℕ) → is_on binary_overflow x ≡ t
-    → (is_on binary_overflow (cond t x (x + binary_overflow)) ≡ true)
-    × (cond t x (x + binary_overflow) / 8 % 4 ≡ x / 8 % 4)
-    × (cond t x (x + binary_overflow) / 64 ≡ x / 64)
-turned_on true x e = (e, refl, refl)
-turned_on false x e =
-    (grind (arith, nat_tests), grind (arith, nat_tests), grind (arith, nat_tests))
-
-turned_off : (t : Bool) (x : ℕ) → is_on binary_overflow x ≡ t
-    → (is_on binary_overflow (cond t (x - binary_overflow) x) ≡ false)
-    × (cond t (x - binary_overflow) x / 8 % 4 ≡ x / 8 % 4)
-    × (cond t (x - binary_overflow) x / 64 ≡ x / 64)
-turned_off true x e =
-    let n = eqb-true (x / 32 % 2) 1 e in
-    (ne_eqb ((x - 32) / 32 % 2) 1 (λ q. omega arith), omega arith, omega arith)
-turned_off false x e = (e, refl, refl)
-
 -- off where z, else on
 pub turned : (z : Bool) (x : ℕ)
     → (is_on binary_overflow (cond z (turn_off binary_overflow x) (turn_on binary_overflow x)) ≡ not z)
     × (cond z (turn_off binary_overflow x) (turn_on binary_overflow x) / 8 % 4 ≡ x / 8 % 4)
     × (cond z (turn_off binary_overflow x) (turn_on binary_overflow x) / 64 ≡ x / 64)
 unfolding turn_on turn_off
-turned true x = turned_off _ x refl
-turned false x = turned_on _ x refl
+turned z x = grind (arith, nat_tests)
 
 -- ---- decimal overflow goes on, and nothing beside it changes
-
-overflow_on : (b : Bool) (x : ℕ) → is_on decimal_overflow x ≡ b → (cond b x (x + 8) / 8 % 2 ≡ 1) × (cond b x (x + 8) / 16 ≡ x / 16)
-overflow_on true x e = (eqb-true (x / 8 % 2) 1 e, refl)
-overflow_on false x e =
-    let z : x / 8 % 2 ≡ 1 → ⊥ = eqb-false (x / 8 % 2) 1 e in
-    (omega arith, omega arith)
 
 pub overflow_set : (b : Bool) (x : ℕ)
     → (is_on decimal_overflow (cond b (turn_on decimal_overflow x) x) ≡ (b || is_on decimal_overflow x)) × (cond b (turn_on decimal_overflow x) x / 16 ≡ x / 16)
 unfolding turn_on
-overflow_set true x =
-    let h = overflow_on (is_on decimal_overflow x) x refl in
-    (eq-eqb _ 1 h.0, h.1)
-overflow_set false x = (refl, refl)
+overflow_set b x = grind (arith, nat_tests)
 
 -- ---- the status stays below 64
 
@@ -95,26 +65,21 @@ pub order_below : (o x : ℕ) → o < 8 → x < 64 → set_order o x < 64
 unfolding set_order
 order_below o x h k = omega arith
 
-on_below : (bit x : ℕ) → x < 64 → ((x / bit % 2 ≡ 1 → ⊥) → x + bit < 64) → turn_on bit x < 64
-unfolding turn_on
-on_below bit x h k = on (is_on bit x) refl
-  where
-    on : (b : Bool) → is_on bit x ≡ b → cond b x (x + bit) < 64
-    on true e = h
-    on false e = k (eqb-false (x / bit % 2) 1 e)
-
 off_below : (bit x : ℕ) → x < 64 → turn_off bit x < 64
 unfolding turn_off
 off_below bit x h = below 64 (is_on bit x) (x - bit) x (omega arith) h
 
 binary_below : (x : ℕ) → x < 64 → turn_on binary_overflow x < 64
-binary_below x h = on_below 32 x h (λ n. omega arith)
+unfolding turn_on
+binary_below x h = grind (arith, nat_tests)
 
 pub test_below : (x : ℕ) → x < 64 → turn_on test_false x < 64
-test_below x h = on_below 16 x h (λ n. omega arith)
+unfolding turn_on
+test_below x h = grind (arith, nat_tests)
 
 decimal_below : (x : ℕ) → x < 64 → turn_on decimal_overflow x < 64
-decimal_below x h = on_below 8 x h (λ n. omega arith)
+unfolding turn_on
+decimal_below x h = grind (arith, nat_tests)
 
 pub sum_below : (x : ℕ) (c : Columns) → x < 64 → sum_status x c < 64
 unfolding sum_status

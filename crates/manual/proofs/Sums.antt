@@ -1,9 +1,7 @@
 -- ALC and SLC give the sum and difference of two numbers modulo 256 to the L, with carry and order told. What carries it: each column keeps the sum so far.
-use Rattle.std.proofs.Common.{◌≡◌, refl, sym, ◌∙◌, ap, subst, ◌⊎◌, inl, inr, Bool, true, false, cond, not, ◌&&◌, List, [], ◌∷◌, ℕ, zero, suc, ◌+◌, ◌-◌, ◌*◌, ◌/◌, ◌%◌, ◌^◌, ◌≤◌, ◌<◌, mul_left_comm, mod-lt, mod-eq_of_lt, suc-mul, add-zero, arith, eqb, leb, ltb, lit<, lit≤, length, get_or, set, length-set, get_or-set_same, get_or-set_other, lt-ltb, le-ltb, le-leb, ne_eqb}
+use Rattle.std.proofs.Common.{◌≡◌, refl, sym, ◌∙◌, ap, subst, ◌⊎◌, inl, inr, Bool, true, cond, not, ◌&&◌, List, [], ◌∷◌, ℕ, zero, suc, ◌+◌, ◌-◌, ◌*◌, ◌/◌, ◌%◌, ◌^◌, ◌≤◌, ◌<◌, mul_left_comm, mod-lt, mod-eq_of_lt, suc-mul, add-zero, arith, eqb, leb, ltb, lit<, lit≤, length, get_or, set, length-set, get_or-set_same, get_or-set_other}
 use Rattle.std.proofs.lemmas.Bool.Decides.{nat_tests}
-use Rattle.std.proofs.lemmas.Bool.{lt-leb}
 use Rattle.std.proofs.Math.Bool.{and_assoc, and-true, not-not}
-use Rattle.std.proofs.Math.Decide.{dec_lt}
 use Rattle.std.proofs.Math.Nat.{pow-succ', add-mul-mod_self_right, add-mod_right}
 use Rattle.manual.specs.declared.Machine.{Machine}
 use Rattle.manual.specs.declared.Fields.{Fields}
@@ -21,7 +19,7 @@ use Rattle.manual.proofs.Running.{doing, unless_clear, both_clear, reach_clear}
 use Rattle.manual.proofs.FieldBytes.{Bytes, Outside, outside_apart, outside_left, outside_from, set_below}
 use Rattle.manual.proofs.FieldBytes.{bytes_of_lem, bytes_beside, left_stays, left_inside, number_more, number_below, field_below}
 use Rattle.manual.proofs.Status.{order_fits, order_set, order_leaves, overflow_same, above_same, turned}
-use Rattle.manual.proofs.Compared.{order_equal, order_low, order_high, order_small}
+use Rattle.manual.proofs.Compared.{order_small}
 
 -- the column at the addresses a and b
 abbrev pub column_at : (ℕ → ℕ → ℕ → Column) → List ℕ → ℕ → ℕ → Columns → Column
@@ -279,12 +277,10 @@ sum_told before r p x c e h k = sum_status_lem before p x c.clear (eqb c.over 0)
 -- ---- the status of a difference
 
 difference_order : (r o p x y : ℕ) → r + y ≡ x + o * p → r < p → x < p → y < p → o ≤ 1 → cond (eqb r 0) equal (cond (eqb o 0) high low) ≡ order_of x y
-difference_order zero zero p x y e h k l z = sym (order_equal x y (omega arith))
-difference_order zero (suc zero) p x y e h k l z = absurd (omega arith)
-difference_order zero (suc (suc o)) p x y e h k l z = absurd (omega arith)
-difference_order (suc r) zero p x y e h k l z = rw (ne_eqb (suc r) 0 (λ q. omega arith)) (sym (order_high x y (omega arith)))
-difference_order (suc r) (suc zero) p x y e h k l z = rw (ne_eqb (suc r) 0 (λ q. omega arith)) (sym (order_low x y (omega arith)))
-difference_order (suc r) (suc (suc o)) p x y e h k l z = absurd (omega arith)
+unfolding order_of
+difference_order r zero p x y e h k l z = grind (arith, nat_tests)
+difference_order r (suc zero) p x y e h k l z = grind (arith, nat_tests)
+difference_order r (suc (suc o)) p x y e h k l z = absurd (omega arith)
 
 difference_left : (r o p x y : ℕ) → r + y ≡ x + o * p → r < p → y < p → o ≤ 1 → r ≡ (x + p - y) % p
 difference_left r zero p x y e h l z = let q : x + p - y ≡ r + p = omega arith in rw (q, add-mod_right r p) (sym (mod-eq_of_lt h))
@@ -382,9 +378,8 @@ module _ (m : Machine) (s : List ℕ) (f : Fields) (reached : clear (reach_both 
 -- ---- SLI: one column, the byte at operand 1 against Q
 
 byte_order : (x y : ℕ) → x < 256 → y < 256 → cond (eqb ((x + 256 - y) % 256) 0) equal (cond (eqb (cond (ltb x y) 1 0) 0) high low) ≡ order_of x y
-byte_order x y h k =
-    let e : (x + 256 - y) % 256 + y ≡ x + 256 * cond (ltb x y) 1 0 = simp add-zero at (subtracted_keeps x y 0 h k (lit≤ tt)) in
-    difference_order ((x + 256 - y) % 256) (cond (ltb x y) 1 0) 256 x y (omega arith) (mod-lt _ (lit< tt)) h k (one_or_none (ltb x y))
+unfolding order_of
+byte_order x y h k = grind (arith, nat_tests)
 
 pub sli_differs : (m : Machine) (s : List ℕ) (f : Fields) → clear (reach (length s) 1 f.a1) ≡ true → get_or s f.a1 0 < 256 → f.q < 256
     → did m s (sli f)

@@ -1,5 +1,6 @@
 -- The field that AZ, SZ and ZAZ leave, read back, is the exact signed result cut to it. What carries it: the digits written from the right are those of the cut size.
 use Rattle.std.proofs.Common.{Ok, ◌≡◌, refl, sym, ◌∙◌, ap, Bool, true, false, cond, not, ◌&&◌, ◌||◌, List, ◌↔◌, ◌≢◌, ℕ, zero, suc, ◌+◌, ◌-◌, ◌*◌, ◌/◌, ◌%◌, ◌^◌, ◌≤◌, ◌<◌, arith, mod-eq_of_lt, length, get_or, set, length-set, get_or-set_same, get_or-set_other, eqb, leb, ℤ, pos, negsuc, nat_abs, ◌+ℤ◌, ◌-ℤ◌, leb-true, leb-false, le-leb}
+use Rattle.std.proofs.lemmas.Bool.Decides.{nat_tests}
 use Rattle.std.proofs.lemmas.Bool.{and_parts}
 use Rattle.std.proofs.Math.Nat.{zero-mod, mod-mod, sub-zero}
 use Rattle.std.proofs.Math.Dec.{eqb-suc-zero}
@@ -157,8 +158,7 @@ digit_of_size t (suc n) a (suc j) good q =
 -- ---- the field that is left, read back
 
 sign_zone_eqb : (sign : Bool) → eqb (cond sign 0xD 0xF) 0xD ≡ sign
-sign_zone_eqb true = refl
-sign_zone_eqb false = refl
+sign_zone_eqb sign = grind (arith, nat_tests)
 
 module _ (s : List ℕ) (n a : ℕ) (sign : Bool) (m : ℕ) (inn : a < length s) (fits : n ≤ a + 1) where
   pub zoned_byte_lem : (j : ℕ) → j < n → get_or (zoned_bytes s n a sign m) (a - j) 0 ≡ zoned_byte sign m j
