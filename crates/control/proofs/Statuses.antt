@@ -1,12 +1,8 @@
 -- The status after BC and JC as the mask gives it. What carries it: one computed test of every status under every pick.
-use Rattle.std.proofs.Common.{◌≡◌, refl, sym, ◌∙◌, Bool, true, ◌&&◌, eqb, ℕ, zero, suc, ◌-◌, ◌*◌, ◌/◌, ◌%◌, ◌<◌, arith, bit_and}
-use Rattle.std.proofs.lemmas.Bool.Decides.{Decides-below_and, Decides-eqb}
+use Rattle.std.proofs.Common.{◌≡◌, refl, sym, ◌∙◌, Bool, true, eqb, ℕ, ◌-◌, ◌*◌, ◌/◌, ◌%◌, ◌<◌, arith, bit_and, eqb-true}
+use Rattle.std.proofs.lemmas.Bool.{agree_below, agree_below_at}
 use Rattle.manual.specs.TheMachine.{turn_off}
 use Rattle.manual.specs.Branches.{after_test}
-
-abbrev all_below : (ℕ → Bool) → ℕ → Bool
-all_below p zero = true
-all_below p (suc n) = p n && all_below p n
 
 -- test false and decimal overflow picked as the two bits of k
 abbrev masked : ℕ → ℕ → ℕ
@@ -15,17 +11,18 @@ masked k status = bit_and status (255 - k * 8)
 abbrev agrees : ℕ → ℕ → Bool
 agrees k status = eqb (masked k status) (after_test (k * 8) status)
 
-computed : all_below (λ k. all_below (agrees k) 256) 4 ≡ true
+abbrev yes : ℕ → Bool
+yes k = true
+
+abbrev all_agree : ℕ → Bool
+all_agree k = agree_below (agrees k) yes 256
+
+computed : agree_below all_agree yes 4 ≡ true
 unfolding after_test turn_off
 computed = refl
 
 each : (k : ℕ) → k < 4 → (status : ℕ) → status < 256 → masked k status ≡ after_test (k * 8) status
-each =
-    (Decides-below_and (λ k. all_below (agrees k) 256)
-    (λ k. (status : ℕ) → status < 256 → masked k status ≡ after_test (k * 8) status)
-    (all_below (λ k. all_below (agrees k) 256))
-    (λ k. Decides-below_and (agrees k) (λ status. masked k status ≡ after_test (k * 8) status) (all_below (agrees k)) (λ status. Decides-eqb _ _) refl (λ _. refl) 256)
-    refl (λ _. refl) 4).0 computed
+each k h status l = eqb-true _ _ (agree_below_at (agrees k) yes 256 status (agree_below_at all_agree yes 4 k computed h) l)
 
 -- the Q byte tells no more than those two bits
 only_picked : (q status : ℕ) → after_test q status ≡ after_test (q / 8 % 4 * 8) status

@@ -1,4 +1,3 @@
-pub mod Computed
 pub mod Rest
 pub mod Unlisted
 pub mod OverCode

@@ -5,7 +5,7 @@ use Rattle.manual.specs.declared.Operation.{Operation}
 use Rattle.manual.specs.declared.Form.{Form}
 use Rattle.manual.specs.Formats.{form_of, operation_of}
 use Rattle.manual.specs.declared.Stop.TheVariants.{CutShort}
-use Rattle.manual.specs.Decode.{with_q, decode_named, decode_opcode, decode_of}
+use Rattle.manual.specs.Decode.{with_q, decode_named, decode_opcode}
 use Rattle.decode.specs.Code.{code_named, code_opcode}
 
 module _ (s : List ℕ) (iar : ℕ) where

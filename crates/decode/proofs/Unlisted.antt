@@ -1,10 +1,10 @@
 -- The opcodes that the decoder doesn't name one by one: of two addresses, or naming nothing.
-use Rattle.std.proofs.Common.{Option, Some, None, ◌≡◌, refl, Bool, true, false, true≢false, List, [], ◌∷◌, ℕ, ◌/◌, ◌%◌, ◌<◌, T, get_or}
+use Rattle.std.proofs.Common.{Option, Some, None, ◌≡◌, refl, Bool, true, false, List, [], ◌∷◌, ℕ, ◌/◌, ◌%◌, ◌<◌, T, get_or}
+use Rattle.std.proofs.lemmas.Bool.{agree_below, agree_below_at}
 use Rattle.manual.specs.declared.Group.{Group}
 use Rattle.manual.specs.declared.Group.TheVariants.{TwoAddress, OneAddress, Branch, Jump}
 use Rattle.manual.specs.Formats.{two_address, form_of, named_of, operation_of, allowed}
 use Rattle.decode.specs.Fetching.{is_unknown, is_pair_or, unlisted, allows_named}
-use Rattle.decode.proofs.Computed.{all_below, all_at}
 use Rattle.decode.proofs.Rest.{Rest, Passed, by_rest}
 use Rattle.manual.specs.declared.Operation.{Operation}
 
@@ -13,7 +13,7 @@ is_unknown_lem None t = refl
 is_unknown_lem (Some op) t = absurd t
 
 nothing : (g : Group) (n : Option Operation) → T (is_pair_or g (is_unknown n)) → is_pair_or g false ≡ false → n ≡ None
-nothing TwoAddress n t h = absurd (true≢false h)
+nothing TwoAddress n t h = cc
 nothing OneAddress n t h = is_unknown_lem n t
 nothing Branch n t h = is_unknown_lem n t
 nothing Jump n t h = is_unknown_lem n t
@@ -43,23 +43,19 @@ listed =
 
 all_others : Passed listed unlisted
 unfolding unlisted form_of named_of
-all_others = tt
+all_others = refl
 
 pub others : (o : ℕ) → o < 256 → Rest listed o → T (unlisted o)
-others o h n = by_rest listed unlisted all_others o h n
+others o h n = rw (by_rest listed unlisted all_others o h n) tt
 
 -- MVX's right digit apart, every Q byte is allowed
 abbrev all_allowed : ℕ → Bool
-all_allowed k = all_below (λ q. allows_named (get_or two_address k None) q) 256
+all_allowed k = agree_below (λ q. allows_named (get_or two_address k None) q) (λ _. true) 256
 
 all_free : Passed (8 ∷ []) all_allowed
 unfolding allowed
-all_free = tt
-
-is_true : (b : Bool) → T b → b ≡ true
-is_true true t = refl
-is_true false t = absurd t
+all_free = refl
 
 pub others_allow : (k q : ℕ) → k < 256 → q < 256 → (k ≡ 8 → ⊥) → allows_named (get_or two_address k None) q ≡ true
 others_allow k q h l n =
-    is_true _ (all_at (λ q. allows_named (get_or two_address k None) q) 256 (by_rest (8 ∷ []) all_allowed all_free k h (tt, n)) q l)
+    agree_below_at (λ q. allows_named (get_or two_address k None) q) (λ _. true) 256 q (by_rest (8 ∷ []) all_allowed all_free k h (tt, n)) l

@@ -1,5 +1,6 @@
 -- Fields of one length compare as their bytes from the left do. What carries it: the leftmost byte weighs more than all to its right.
 use Rattle.std.proofs.Common.{◌≡◌, ℕ, zero, suc, ◌+◌, ◌-◌, ◌*◌, ◌^◌, ◌<◌, ◌≤◌, List, ◌∷◌, length, slice_index, take, drop, refl, ap, sym, ◌∙◌, arith, Ordering, Less, Equal, Greater, inl, inr}
+use Rattle.std.proofs.lemmas.Bool.Decides.{nat_tests}
 use Rattle.std.proofs.Math.Nat.{pow-succ', mul-le-mul_left}
 use Rattle.std.proofs.Math.Seq.{drop-cons}
 use Rattle.std.proofs.lemmas.Bool.{cases_order}
@@ -8,7 +9,7 @@ use Rattle.std.specs.Cmp.{nat_cmp_is}
 use Rattle.std.specs.Cmp.Lexicographic.{slice_cmp}
 use Rattle.manual.specs.TheMachine.{order_of}
 use Rattle.manual.specs.Values.{number, bytes_of}
-use Rattle.manual.proofs.Compared.{order_equal, order_low, order_high}
+use Rattle.manual.proofs.FieldBytes.{field_below, bytes_of_lem}
 
 spread : (b m p q y : ℕ) → q ≡ 256 * p → b + 256 * (m + p * y) ≡ b + 256 * m + q * y
 spread b m p q y e = rw e (omega arith)
@@ -26,22 +27,12 @@ front s (suc n) a h =
     let ih : number (bytes_of s (suc n) (a - 1)) ≡ number (bytes_of s n (a - 1)) + 256 ^ n * slice_index s (a - suc n) = rw e at (front s n (a - 1) (omega arith)) in
     ap (λ r. slice_index s a + 256 * r) ih ∙ spread (slice_index s a) (number (bytes_of s n (a - 1))) (256 ^ n) (256 ^ suc n) (slice_index s (a - suc n)) (pow-succ' 256 n)
 
-below : (s : List ℕ) (n a : ℕ) → ((k : ℕ) → slice_index s k < 256) → number (bytes_of s n a) < 256 ^ n
-unfolding number bytes_of
-below s zero a small = omega arith
-below s (suc n) a small = let h = small a in omega (arith, below s n (a - 1) small, pow-succ' 256 n)
-
 -- x and y above numbers below p
 lower : (p x y u v : ℕ) → u < p → x < y → u + p * x < v + p * y
 lower p x y u v hu h = omega (arith, mul-le-mul_left {m = x + 1} {n = y} p (omega arith))
 
 same_above : (p x u v : ℕ) → nat_cmp (u + p * x) (v + p * x) ≡ nat_cmp u v
-same_above p x u v =
-    elim (cases_order u v) [
-      | inl e ↦ sym (nat_cmp_is (u + p * x) (v + p * x) Equal (omega arith)) ∙ nat_cmp_is u v Equal e
-      | inr (inl h) ↦ sym (nat_cmp_is (u + p * x) (v + p * x) Less (omega arith)) ∙ nat_cmp_is u v Less h
-      | inr (inr h) ↦ sym (nat_cmp_is (u + p * x) (v + p * x) Greater (omega arith)) ∙ nat_cmp_is u v Greater h
-    ]
+same_above p x u v = grind (arith, nat_tests)
 
 above : (p x y u v : ℕ) → u < p → v < p → nat_cmp (u + p * x) (v + p * y) ≡ ordering_then (nat_cmp x y) (nat_cmp u v)
 above p x y u v hu hv =
@@ -67,7 +58,7 @@ same_order s (suc n) a b la lb na nb small =
     let u = number (bytes_of s n a) in
     let v = number (bytes_of s n b) in
     let ih : slice_cmp nat_cmp (take n (drop (a + 1 - n) s)) (take n (drop (b + 1 - n) s)) ≡ nat_cmp u v = same_order s n a b la lb (omega arith) (omega arith) small in
-    rw (cut s n a la na, cut s n b lb nb, ih, front s n a (omega arith), front s n b (omega arith)) (sym (above (256 ^ n) x y u v (below s n a small) (below s n b small)))
+    rw (cut s n a la na, cut s n b lb nb, ih, front s n a (omega arith), front s n b (omega arith)) (sym (above (256 ^ n) x y u v (field_below s n a (bytes_of_lem s n a small)) (field_below s n b (bytes_of_lem s n b small))))
 
 -- an order as the status has it: equal, low, high
 abbrev pub bits : Ordering → ℕ
@@ -76,12 +67,8 @@ bits Less = 2
 bits Greater = 4
 
 bits_order : (u v : ℕ) → bits (nat_cmp u v) ≡ order_of u v
-bits_order u v =
-    elim (cases_order u v) [
-      | inl e ↦ rw (← nat_cmp_is u v Equal e) (sym (order_equal u v e))
-      | inr (inl h) ↦ rw (← nat_cmp_is u v Less h) (sym (order_low u v h))
-      | inr (inr h) ↦ rw (← nat_cmp_is u v Greater h) (sym (order_high u v h))
-    ]
+unfolding order_of
+bits_order u v = grind (arith, nat_tests)
 
 -- what the compare of two parts of the storage tells
 pub fields_order : (s : List ℕ) (n a b : ℕ) → (a < length s) × (n ≤ a + 1) → (b < length s) × (n ≤ b + 1) → ((k : ℕ) → slice_index s k < 256)

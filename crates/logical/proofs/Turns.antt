@@ -1,6 +1,6 @@
 -- MVC, ALC and SLC, turn by turn of a loop that goes by an index i. What carries it: what is left to do gives what the whole gives.
-use Rattle.std.proofs.Common.{◌≡◌, refl, ◌∙◌, Bool, true, false, cond, ◌&&◌, List, ℕ, suc, ◌+◌, ◌-◌, ◌/◌, ◌%◌, ◌<◌, ◌≤◌, arith, eqb, ltb, get_or, set, lt-ltb, le-ltb}
-use Rattle.std.proofs.Math.Decide.{dec_lt}
+use Rattle.std.proofs.Common.{◌≡◌, refl, ◌∙◌, Bool, true, false, ◌&&◌, List, ℕ, suc, ◌+◌, ◌-◌, ◌/◌, ◌%◌, ◌<◌, ◌≤◌, arith, eqb, get_or, set}
+use Rattle.std.proofs.lemmas.Bool.Decides.{nat_tests}
 use Rattle.manual.specs.declared.Machine.{Machine}
 use Rattle.manual.specs.declared.Columns.{Columns}
 use Rattle.manual.specs.Places.{state}
@@ -42,11 +42,7 @@ module _ (p : Prog (Unit {0})) (r : List ℕ) where
 
 -- the borrow of a column, as the code reckons it from the difference that it holds 256 above
 pub borrowed : (t x y c : ℕ) → t ≡ x + 256 - (y + c) → t < 512 → 1 - t / 256 ≡ (subtracted x y c).over
-borrowed t x y c h k = go (dec_lt x (y + c))
-  where
-    go : Dec (x < y + c) → 1 - t / 256 ≡ cond (ltb x (y + c)) 1 0
-    go (yes e) = rw (lt-ltb x (y + c) e) (omega arith)
-    go (no e) = let f : y + c ≤ x = omega arith in rw (le-ltb x (y + c) f) (omega arith)
+borrowed t x y c h k = grind (arith, nat_tests)
 
 -- the columns so far, by the carry as the code holds it
 unfoldable pub so_far : Bool → ℕ → Bool → Columns

@@ -1,14 +1,14 @@
 -- The status: its order is set, a bit goes on or off, what isn't named stays, and below 64 it stays there. What carries it: each bit is told by a division.
-use Rattle.std.proofs.Common.{◌≡◌, ap, Bool, cond, not, ◌||◌, ℕ, ◌-◌, ◌/◌, ◌%◌, ◌<◌, arith, eqb, ℤ, nat_abs}
+use Rattle.std.proofs.Common.{◌≡◌, ap, Bool, cond, not, ◌||◌, ℕ, ◌/◌, ◌%◌, ◌<◌, arith, eqb, ℤ, nat_abs}
 use Rattle.std.proofs.lemmas.Bool.Decides.{nat_tests}
 use Rattle.std.proofs.lemmas.Bool.{cond_both}
 use Rattle.manual.specs.declared.Columns.{Columns}
 use Rattle.manual.specs.TheMachine.{binary_overflow, test_false, decimal_overflow, equal, low, high, is_on, turn_on, turn_off, set_order}
-use Rattle.manual.specs.Values.{overflows, negative, sign_order, cut_to}
+use Rattle.manual.specs.Values.{negative, sign_order, cut_to}
 use Rattle.manual.specs.Zoned.{zoned_status}
 use Rattle.manual.specs.Logical.{sum_status, difference_status}
 use Rattle.manual.specs.Registers.{loaded_status}
-use Rattle.manual.specs.Branches.{off_if_picked, after_test}
+use Rattle.manual.specs.Branches.{after_test}
 
 pub below : (n : ℕ) (b : Bool) (x y : ℕ) → x < n → y < n → cond b x y < n
 below n b x y h k = cond_both b x y (λ (z : ℕ). z < n) (λ _. h) (λ _. k)
@@ -65,50 +65,26 @@ pub order_below : (o x : ℕ) → o < 8 → x < 64 → set_order o x < 64
 unfolding set_order
 order_below o x h k = omega arith
 
-off_below : (bit x : ℕ) → x < 64 → turn_off bit x < 64
-unfolding turn_off
-off_below bit x h = below 64 (is_on bit x) (x - bit) x (omega arith) h
-
-binary_below : (x : ℕ) → x < 64 → turn_on binary_overflow x < 64
-unfolding turn_on
-binary_below x h = grind (arith, nat_tests)
-
 pub test_below : (x : ℕ) → x < 64 → turn_on test_false x < 64
 unfolding turn_on
 test_below x h = grind (arith, nat_tests)
 
-decimal_below : (x : ℕ) → x < 64 → turn_on decimal_overflow x < 64
-unfolding turn_on
-decimal_below x h = grind (arith, nat_tests)
-
 pub sum_below : (x : ℕ) (c : Columns) → x < 64 → sum_status x c < 64
-unfolding sum_status
-sum_below x c h =
-    order_below (cond c.clear equal (cond (eqb c.over 0) low high)) (cond (eqb c.over 0) (turn_off binary_overflow x) (turn_on binary_overflow x))
-    (order_fits c.clear (eqb c.over 0))
-    (below 64 (eqb c.over 0) (turn_off binary_overflow x) (turn_on binary_overflow x) (off_below binary_overflow x h) (binary_below x h))
+unfolding sum_status set_order turn_on turn_off
+sum_below x c h = grind (arith, nat_tests)
 
 pub difference_below : (x : ℕ) (c : Columns) → x < 64 → difference_status x c < 64
-unfolding difference_status
-difference_below x c h =
-    order_below (cond c.clear equal (cond (eqb c.over 0) high low)) x
-    (borrow_fits c.clear (eqb c.over 0)) h
+unfolding difference_status set_order
+difference_below x c h = grind (arith, nat_tests)
 
 pub zoned_below : (n x : ℕ) (z : ℤ) → x < 64 → zoned_status n x z < 64
-unfolding zoned_status
-zoned_below n x z h =
-    order_below (sign_order (cut_to n z)) (cond (overflows n z) (turn_on decimal_overflow x) x) (sign_small (cut_to n z))
-    (below 64 (overflows n z) (turn_on decimal_overflow x) x (decimal_below x h) h)
+unfolding zoned_status set_order turn_on
+zoned_below n x z h = grind (arith, nat_tests, sign_small (cut_to n z))
 
 pub loaded_below : (b : ℕ) → loaded_status b < 64
-unfolding loaded_status
-loaded_below b =
-    order_below (cond (is_on equal b) equal (cond (is_on low b) low high)) (b % 64)
-    (order_fits (is_on equal b) (is_on low b)) (omega arith)
-
-picked_below : (bit q x : ℕ) → x < 64 → off_if_picked bit q x < 64
-picked_below bit q x h = below 64 (is_on bit q) (turn_off bit x) x (off_below bit x h) h
+unfolding loaded_status set_order
+loaded_below b = grind (arith, nat_tests)
 
 pub after_below : (q x : ℕ) → x < 64 → after_test q x < 64
-unfolding after_test
-after_below q x h = picked_below test_false q (off_if_picked decimal_overflow q x) (picked_below decimal_overflow q x h)
+unfolding after_test turn_off
+after_below q x h = grind (arith, nat_tests)

@@ -1,6 +1,5 @@
 -- The inner step and the turns of the run's loop, over plain variables. What carries it: a step is what decoding finds, performed.
-use Rattle.std.proofs.Common.{Ok, Err, ◌≡◌, refl, ap, sym, ◌∙◌, Bool, true, false, cond, List, length, ℕ, ◌+◌, ◌≤◌}
-use Rattle.std.proofs.lemmas.Bool.{false≢true}
+use Rattle.std.proofs.Common.{Ok, Err, ◌≡◌, refl, ap, sym, ◌∙◌, Bool, false, cond, List, length, ℕ, ◌+◌, ◌≤◌}
 use Rattle.manual.specs.declared.Machine.{Machine}
 use Rattle.manual.specs.declared.Operation.{Operation}
 use Rattle.manual.specs.declared.Fields.{Fields}
@@ -11,9 +10,9 @@ use Rattle.manual.specs.declared.Stop.{Stop}
 use Rattle.manual.specs.declared.Stop.TheVariants.{CutShort, OpcodeUnknown, QRefused, OperandOutside, DigitRefused, Supervisor}
 use Rattle.manual.specs.Decode.{decode_of, Decoded}
 use Rattle.manual.specs.TheMachine.{size_allowed, budget_allowed, status_allowed}
-use Rattle.manual.specs.Step.{Outcome, ended, exec, did, follow, inner_step, step_of, SteppedAs}
+use Rattle.manual.specs.Step.{ended, exec, did, follow, inner_step, step_of, SteppedAs}
 use Rattle.manual.specs.Stops.{fields_of}
-use Rattle.manual.specs.Run.{RanOutcome, ran, turns_of, run_of, RanAs}
+use Rattle.manual.specs.Run.{ran, turns_of, run_of, RanAs}
 use Rattle.manual.proofs.Decoding.{DecodedAt, decoded_at}
 use Rattle.manual.proofs.Fetched.{did_step, did_stop, did_perform}
 use Rattle.manual.proofs.Runs.{uncounted, one_turn, ran_on, stopped_at, not_stopped}
@@ -21,6 +20,7 @@ use Rattle.decode.specs.declared.Fetched.{Fetched}
 use Rattle.decode.specs.declared.Fetched.TheVariants.{Go}
 use Rattle.decode.specs.Fetching.{fetched_of}
 use Rattle.processor.specs.Ending.{fetch_stop, is_go}
+use Rattle.manual.proofs.Running.{cond_map_2}
 
 module _ (m : Machine) (s : List ℕ) where
   -- an instruction that decoding found, executed
@@ -42,7 +42,7 @@ module _ (m : Machine) (s : List ℕ) where
 
   -- no instruction: the step stops where decoding did
   ends_as : (d : Decoded) → DecodedAt s m.iar d → is_go (fetched_of m d) ≡ false → ended m (Stopped (fetch_stop (fetched_of m d))) s ≡ did m s (follow d)
-  ends_as (Ok i) h g = absurd (false≢true (sym g))
+  ends_as (Ok i) h g = cc
   ends_as (Err CutShort) h g = sym (did_stop m s CutShort)
   ends_as (Err OpcodeUnknown) h g = sym (did_stop m s OpcodeUnknown)
   ends_as (Err QRefused) h g = sym (did_stop m s QRefused)
@@ -71,15 +71,10 @@ module _ (m : Machine) (s : List ℕ) where
       ≡ cond a (cond b (inner_step m s) (ended m (Refused StatusRefused) s)) (ended m (Refused SizeRefused) s)
   by_entry a b = rw (one_turn m s) refl
 
-  uncounted_entry : (a b : Bool) (x y z : RanOutcome) → uncounted (cond a (cond b x y) z) ≡ cond a (cond b (uncounted x) (uncounted y)) (uncounted z)
-  uncounted_entry true true x y z = refl
-  uncounted_entry true false x y z = refl
-  uncounted_entry false b x y z = refl
-
   run_once : uncounted (run_of m s 1) ≡ step_of m s
   unfolding run_of step_of budget_allowed
   run_once =
-      uncounted_entry (size_allowed (length s)) (status_allowed m.status) (turns_of m s 1) (ran m (Refused StatusRefused) 0 s) (ran m (Refused SizeRefused) 0 s)
+      cond_map_2 uncounted (size_allowed (length s)) (status_allowed m.status) (turns_of m s 1) (ran m (Refused StatusRefused) 0 s) (ran m (Refused SizeRefused) 0 s)
       ∙ by_entry (size_allowed (length s)) (status_allowed m.status)
 
   pub one_step : (r : Ran) (t : List ℕ) → RanAs m s 1 r t → SteppedAs m s (record { machine = r.machine; answer = r.ended.answer }) t

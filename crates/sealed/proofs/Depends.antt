@@ -1,6 +1,7 @@
 -- A program depends on what it reads alone, and keeps what it doesn't write. What carries it: three clauses, one for each form of a program.
 use Rattle.std.proofs.Common.{◌≡◌, refl, sym, ◌∙◌, Bool, true, false, not, ◌&&◌, ◌||◌, true≢false, List, [], ◌∷◌, ℕ, zero, suc, arith, length, get_or, set, length-set, eqb-true, eq-eqb, get_or-set_other}
-use Rattle.std.proofs.lemmas.Bool.{false≢true, eqb-false}
+use Rattle.std.proofs.lemmas.Bool.Decides.{nat_tests}
+use Rattle.std.proofs.lemmas.Bool.{false≢true, eqb-false, or_right, or_parts}
 use Rattle.std.proofs.Math.Bool.{and-true}
 use Rattle.manual.specs.declared.Register.{Register}
 use Rattle.manual.specs.declared.Register.TheVariants.{Arr, Xr1, Xr2, Work}
@@ -8,6 +9,7 @@ use Rattle.manual.specs.Places.{Place, mem, reg, same, same_register, State, loo
 use Rattle.manual.specs.Programs.{Prog, ret, rd, wr, val, fin, reads, wrote}
 use Rattle.manual.specs.Reads.{elem}
 use Rattle.sealed.specs.Sealed.{without, Agree}
+use Rattle.manual.proofs.Keeps.{put_length}
 
 -- ---- places
 
@@ -77,10 +79,6 @@ module _ (v : ℕ) (σ : State) where
   put_other (reg r) (mem b) e = refl
   put_other (reg r) (reg q) e = put_other_reg r q e
 
-  put_length : (l : Place) → length (put l v σ).bytes ≡ length σ.bytes
-  put_length (mem a) = length-set σ.bytes a v
-  put_length (reg r) = refl
-
   put_works : (l : Place) → length (put l v σ).machine.wr ≡ length σ.machine.wr
   put_works (mem a) = refl
   put_works (reg Arr) = refl
@@ -91,27 +89,13 @@ module _ (v : ℕ) (σ : State) where
 -- ---- Bool
 
 less_false : (x y : Bool) → (x && not y) ≡ false → y ≡ false → x ≡ false
-less_false x true e q = absurd (true≢false q)
-less_false true false e q = e
-less_false false false e q = refl
+less_false x y e q = grind (arith, nat_tests)
 
 pub less_true : (x y : Bool) → (x && not y) ≡ true → (x ≡ true) × (y ≡ false)
-less_true true true e = absurd (false≢true e)
-less_true true false e = (refl, refl)
-less_true false y e = absurd (false≢true e)
-
-or_right : (x y : Bool) → y ≡ true → (x || y) ≡ true
-or_right true y e = refl
-or_right false y e = e
-
-neither : (x y : Bool) → (x || y) ≡ false → (x ≡ false) × (y ≡ false)
-neither true y e = absurd (true≢false e)
-neither false y e = (refl, e)
+less_true x y e = grind (arith, nat_tests)
 
 less_twice : (x y w : Bool) → ((x && not y) && not w) ≡ (x && not (y || w))
-less_twice true true w = refl
-less_twice true false w = refl
-less_twice false y w = refl
+less_twice x y w = grind (arith, nat_tests)
 
 -- ---- agreement
 
@@ -125,7 +109,7 @@ unseal l z x = z x && not (same l x)
 agree_put : (z : Place → Bool) (l : Place) (v : ℕ) (σ τ : State) → Agree z σ τ → Agree (unseal l z) (put l v σ) (put l v τ)
 agree_put z l v σ τ h =
     record {
-      size = put_length v σ l ∙ h.size ∙ sym (put_length v τ l);
+      size = put_length l v σ ∙ h.size ∙ sym (put_length l v τ);
       works = put_works v σ l ∙ h.works ∙ sym (put_works v τ l);
       rest = λ x e. at x (same l x) refl e;
     }
@@ -163,5 +147,5 @@ module _ {A : Type 0} where
   kept (ret v) σ x e = refl
   kept (rd l k) σ x e = kept (k (look l σ)) σ x e
   kept (wr l v p) σ x e =
-      let n = neither (same l x) (elem x (wrote p (put l v σ))) e in
+      let n = or_parts (same l x) (elem x (wrote p (put l v σ))) e in
       kept p (put l v σ) x n.1 ∙ put_other v σ l x n.0

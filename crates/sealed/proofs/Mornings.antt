@@ -1,5 +1,6 @@
 -- A program that reads only what the host or the run has written gives the same morning. What carries it: demand 3, with every other byte sealed.
-use Rattle.std.proofs.Common.{◌≡◌, refl, ap, ◌∙◌, Bool, true, false, not, ◌&&◌, ◌||◌, List, ℕ, zero, suc, length, get_or}
+use Rattle.std.proofs.Common.{◌≡◌, refl, ap, ◌∙◌, Bool, true, not, ◌&&◌, ◌||◌, List, ℕ, zero, suc, length, get_or, arith}
+use Rattle.std.proofs.lemmas.Bool.Decides.{nat_tests}
 use Rattle.std.proofs.lemmas.Bool.{not-false}
 use Rattle.manual.specs.declared.Machine.{Machine}
 use Rattle.manual.specs.declared.Ran.{Ran}
@@ -16,8 +17,7 @@ abbrev others : (ℕ → Bool) → ℕ → Bool
 others h a = not (h a)
 
 not_or : (x y : Bool) → (not x && not y) ≡ not (x || y)
-not_or true y = refl
-not_or false y = refl
+not_or x y = grind (arith, nat_tests)
 
 -- a byte is still sealed while nothing has written it
 sealed_unwritten : (h : ℕ → Bool) (m : Machine) (s : List ℕ) (k a : ℕ) → sealed_byte (others h) m s k a ≡ not (written_after h m s k a)

@@ -96,9 +96,6 @@ compares_sealed : (x : ℕ) → sealed_byte (from 0x80) start (comparing x) 0 0x
 unfolding sealed_after
 compares_sealed x = refl
 
-two_not_one : ◌≡◌ {A = ℕ} 2 1 → ⊥
-two_not_one e = omega arith
-
 pub sealed_cases : SealedCases
 unfolding sealed_after run_of turns_of more inner_step did step follow perform exec fetch val fin ◌>>=◌ rightward unless and_then size_allowed budget_allowed status_allowed set_order order_of form_of named_of first_base allowed reach instruction_of decode_of copy mvc mvi cli call outside further field when operand_writes writes_of
 sealed_cases =
@@ -112,5 +109,5 @@ sealed_cases =
       compares_reads = λ x q. true≢false (sym (compares_sealed x) ∙ q 0 (compares_taken x) 0x80 (compares_listed x));
       compares_low = refl;
       compares_equal = refl;
-      compares_differ = λ e. two_not_one (ap (λ (m : Machine). m.status) e);
+      compares_differ = λ e. omega (arith, ap (λ (m : Machine). m.status) e);
     }

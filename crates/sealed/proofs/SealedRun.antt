@@ -13,7 +13,7 @@ use Rattle.manual.specs.When.{Entered}
 use Rattle.manual.specs.Step.{inner_step}
 use Rattle.manual.specs.Reads.{elem, writes_of}
 use Rattle.manual.specs.Run.{RanOutcome, ran, count_after, more_of, more, turns_of, run_of}
-use Rattle.manual.proofs.Runs.{not_refused, not_stopped, more_stays, more_steps, steps_within}
+use Rattle.manual.proofs.Runs.{more_stays, more_steps, steps_within, ended_refused, ended_stopped}
 use Rattle.manual.proofs.Keeps.{turns_as_counted}
 use Rattle.sealed.specs.Sealed.{reads_at, writes_at, sealed_after, still_sealed, ReadsNoSealed, Agree, state_of, Same, SealHolds}
 use Rattle.sealed.proofs.Depends.{less_true}
@@ -93,8 +93,8 @@ module _ (z : Place → Bool) (m n : Machine) (s t : List ℕ) where
   module _ (b : ℕ) (h : Same z (ran m Executed 0 s) (ran n Executed 0 t)) (e : Entered m s b) (q : ReadsNoSealed z m s b) where
     sofar_by : (k : ℕ) → k < b → Sofar (turns_of m s k) (turns_of n t k) → (a : Answer) → answer_of (turns_of m s k) ≡ a → Sofar (turns_of m s (suc k)) (turns_of n t (suc k))
     sofar_by k l i Executed f = stepped k i f (q k (record { entered = e; unspent = l; executed = f }))
-    sofar_by k l i (Refused x) f = stopped k i (λ g. not_refused x (sym (ap number_of f) ∙ g))
-    sofar_by k l i (Stopped x) f = stopped k i (λ g. not_stopped x (sym (ap number_of f) ∙ g))
+    sofar_by k l i (Refused x) f = stopped k i (ended_refused f)
+    sofar_by k l i (Stopped x) f = stopped k i (ended_stopped f)
 
     sofar : (k : ℕ) → k ≤ b → Sofar (turns_of m s k) (turns_of n t k)
     unfolding sealed_after turns_of

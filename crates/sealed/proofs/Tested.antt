@@ -1,6 +1,6 @@
 -- That no step of a run reads a sealed byte, as a test that computes. What carries it: only the listed places have to be looked at, step by step.
-use Rattle.std.proofs.Common.{◌≡◌, refl, ap, sym, ◌∙◌, subst, Bool, true, false, not, ◌&&◌, ◌||◌, List, [], ◌∷◌, ℕ, zero, suc, ◌<◌, arith, eqb, eqb-true}
-use Rattle.std.proofs.lemmas.Bool.{false≢true, eqb-false, not-true}
+use Rattle.std.proofs.Common.{◌≡◌, ap, sym, ◌∙◌, Bool, true, false, not, ◌&&◌, List, [], ◌∷◌, ℕ, zero, suc, ◌<◌, arith, eqb-true, ⊎_elim, below_more}
+use Rattle.std.proofs.lemmas.Bool.{false≢true, not-true, and_parts, or_cases}
 use Rattle.manual.specs.declared.Machine.{Machine}
 use Rattle.manual.specs.Places.{Place, mem, reg, same}
 use Rattle.manual.specs.Reads.{elem}
@@ -16,10 +16,6 @@ unfoldable pub quiet : (ℕ → Bool) → Machine → List ℕ → ℕ → Bool
 quiet z m s zero = true
 quiet z m s (suc b) = quiet z m s b && none_in (sealed_after (sealing z) m s b) (reads_at m s b)
 
-both : (x y : Bool) → (x && y) ≡ true → (x ≡ true) × (y ≡ true)
-both true y e = (refl, e)
-both false y e = absurd (false≢true e)
-
 same_byte : (z : Place → Bool) (l : Place) (a : ℕ) → same l (mem a) ≡ true → z (mem a) ≡ z l
 same_byte z (mem b) a e = ap (λ (c : ℕ). z (mem c)) (sym (eqb-true b a e))
 same_byte z (reg r) a e = absurd (false≢true e)
@@ -28,29 +24,17 @@ none_listed : (z : Place → Bool) (xs : List Place) (a : ℕ) → none_in z xs 
 unfolding none_in
 none_listed z [] a n e = absurd (false≢true e)
 none_listed z (l ∷ xs) a n e =
-    let h = both (not (z l)) (none_in z xs) n in
-    on (same l (mem a)) refl e (not-true (z l) h.0) (none_listed z xs a h.1)
-  where
-    on : (b : Bool) → same l (mem a) ≡ b → (b || elem (mem a) xs) ≡ true → z l ≡ false → (elem (mem a) xs ≡ true → z (mem a) ≡ false) → z (mem a) ≡ false
-    on true q f n i = same_byte z l a q ∙ n
-    on false q f n i = i f
+    let h = and_parts (not (z l)) (none_in z xs) n in
+    ⊎_elim (λ q. same_byte z l a q ∙ not-true (z l) h.0) (none_listed z xs a h.1) (or_cases (same l (mem a)) (elem (mem a) xs) e)
 
 module _ (z : ℕ → Bool) (m : Machine) (s : List ℕ) where
   abbrev QuietAt : ℕ → Type 0
   QuietAt k = none_in (sealed_after (sealing z) m s k) (reads_at m s k) ≡ true
 
-  -- the last step, or one before it
-  last_or_before : (b k : ℕ) → k < suc b → QuietAt b → (k < b → QuietAt k) → QuietAt k
-  last_or_before b k l q i = on (eqb k b) refl
-    where
-      on : (c : Bool) → eqb k b ≡ c → QuietAt k
-      on true e = subst QuietAt (sym (eqb-true k b e)) q
-      on false e = let n = eqb-false k b e in i (omega (arith, n))
-
   quiet_at : (b : ℕ) → quiet z m s b ≡ true → (k : ℕ) → k < b → QuietAt k
   unfolding quiet
   quiet_at zero e k l = absurd (omega arith)
-  quiet_at (suc b) e k l = let h = both (quiet z m s b) _ e in last_or_before b k l h.1 (λ j. quiet_at b h.0 k j)
+  quiet_at (suc b) e k l = let h = and_parts (quiet z m s b) _ e in below_more QuietAt b (quiet_at b h.0) h.1 k (omega arith)
 
   -- the test, for a run of this budget
   pub quiet_reads : (b : ℕ) → quiet z m s b ≡ true → ReadsNoSealedByte z m s b

@@ -1,20 +1,19 @@
 -- Demand 3, of the manual's run and of what `run` and `step` answer. What carries it: the law over places, where no register is sealed.
-use Rattle.std.proofs.Common.{◌≡◌, refl, ap, sym, ◌∙◌, subst, Bool, true, false, cond, List, ℕ, zero, suc, arith, length, ext_get_or}
+use Rattle.std.proofs.Common.{◌≡◌, refl, ap, sym, ◌∙◌, subst, Bool, true, false, List, ℕ, zero, suc, arith, length, ext_get_or}
 use Rattle.manual.specs.declared.Machine.{Machine}
 use Rattle.manual.specs.declared.Register.{Register}
 use Rattle.manual.specs.declared.Register.TheVariants.{Arr, Xr1, Xr2, Work}
-use Rattle.manual.specs.declared.Refusal.TheVariants.{SizeRefused, StatusRefused}
-use Rattle.manual.specs.declared.Answer.TheVariants.{Refused}
 use Rattle.manual.specs.declared.Stepped.{Stepped}
 use Rattle.manual.specs.declared.Ran.{Ran}
 use Rattle.manual.specs.TheMachine.{size_allowed, budget_allowed, status_allowed}
 use Rattle.manual.specs.Places.{Place, mem, reg, state, look}
-use Rattle.manual.specs.Step.{outcome, ended, inner_step, step_of, SteppedAs}
+use Rattle.manual.specs.Step.{outcome, inner_step, step_of, SteppedAs}
 use Rattle.manual.specs.Reads.{elem, reads_of}
-use Rattle.manual.specs.Run.{RanOutcome, ran_outcome, ran, counted, more, turns_of, run_of, RanAs}
+use Rattle.manual.specs.Run.{RanOutcome, ran_outcome, counted, more, turns_of, run_of, RanAs}
 use Rattle.sealed.specs.Sealed.{sealed_after, ReadsNoSealed, Agree, SealHolds}
 use Rattle.sealed.specs.Demand3.{sealing, DifferIn, ReadsNoSealedByte, NoLeak, Demand3}
 use Rattle.sealed.proofs.SealedRun.{seal_holds}
+use Rattle.manual.proofs.Running.{cond_map_2}
 
 -- ---- no register is sealed
 
@@ -69,14 +68,7 @@ run_demand_3 m s t b r r' s' t' e f z d q = rw (e, f) (demand_3 m s t b z d q)
 
 run_of_one : (m : Machine) (s : List ℕ) → run_of m s 1 ≡ counted 0 (step_of m s)
 unfolding run_of step_of turns_of more budget_allowed
-run_of_one m s = on (size_allowed (length s)) (status_allowed m.status)
-  where
-    on : (x y : Bool)
-        → cond x (cond y (counted 0 (inner_step m s)) (ran m (Refused StatusRefused) 0 s)) (ran m (Refused SizeRefused) 0 s)
-        ≡ counted 0 (cond x (cond y (inner_step m s) (ended m (Refused StatusRefused) s)) (ended m (Refused SizeRefused) s))
-    on true true = refl
-    on true false = refl
-    on false y = refl
+run_of_one m s = sym (cond_map_2 (counted 0) (size_allowed (length s)) (status_allowed m.status) (inner_step m s) _ _)
 
 -- of any two results that the statement of `step` allows, counted as a run counts them
 pub step_demand_3 : (m : Machine) (s t : List ℕ) (r r' : Stepped) (s' t' : List ℕ)
