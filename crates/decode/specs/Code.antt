@@ -1,5 +1,5 @@
 -- Decoding over the code alone: the bytes from the instruction's first to the end of storage.
-use Rattle.std.specs.Prelude.{ℕ, ◌/◌, cond, List, length, get_or, ltb, Err, Option, Some, None}
+use Rattle.std.specs.Prelude.{ℕ, ◌/◌, cond, List, length, get_or, ltb, Ok, Err, Option, Some, None}
 use Rattle.manual.specs.declared.Operation.{Operation}
 use Rattle.manual.specs.declared.Form.{Form}
 use Rattle.manual.specs.declared.Stop.TheVariants.{CutShort, OpcodeUnknown}
