@@ -1,6 +1,7 @@
 -- A machine written as a deck and read again is that machine; an accepted deck read and written again is that deck; and how long a deck is.
 -- What carries it: one induction on the pages of a storage, and one on the records of an accepted deck.
 use Rattle.std.proofs.Common.{Ok, Err, ℕ, zero, suc, ◌+◌, ◌≤◌, ◌<◌, ◌-◌, ◌*◌, ◌/◌, ◌%◌, pred, Bool, true, false, cond, List, [], ◌∷◌, ◌++◌, append_assoc, ⊎_elim, ◌≡◌, refl, ap, sym, ◌∙◌, add-zero, zero-add, div-add-mod', arith, leb-true, le-leb, ltb-true, lt-ltb, eqb, leb, lit<, length, get_or, take, drop, length-append, length-drop, take-append-drop, replicate, length-take-le, take_at, drop_at, drop-cons, get_or-drop}
+use Rattle.std.proofs.lemmas.Grind.{common_steps}
 use Rattle.std.proofs.lemmas.Bool.Decides.{nat_tests}
 use Rattle.std.proofs.lemmas.List.{nil_from_length}
 use Rattle.std.proofs.lemmas.Bool.{cases_Bool, cond_both}
@@ -334,23 +335,16 @@ reread (suc f) count next n d done e l a =
 -- ---- bytes stay bytes
 
 bytes_append : (xs ys : List ℕ) → Bytes xs → Bytes ys → Bytes (xs ++ ys)
-bytes_append [] ys h k i = k i
-bytes_append (x ∷ xs) ys h k zero = h zero
-bytes_append (x ∷ xs) ys h k (suc i) = bytes_append xs ys (λ j. h (suc j)) k i
+bytes_append xs ys h k i = grind (arith, common_steps, h i, k (i - length xs))
 
 bytes_take : (n : ℕ) (xs : List ℕ) → Bytes xs → Bytes (take n xs)
-bytes_take zero xs h i = lit< tt
-bytes_take (suc n) [] h i = lit< tt
-bytes_take (suc n) (x ∷ xs) h zero = h zero
-bytes_take (suc n) (x ∷ xs) h (suc i) = bytes_take n xs (λ j. h (suc j)) i
+bytes_take n xs h i = grind (arith, common_steps, h i)
 
 bytes_drop : (n : ℕ) (xs : List ℕ) → Bytes xs → Bytes (drop n xs)
 bytes_drop n xs h i = rw get_or-drop (h (n + i))
 
 bytes_zeros : (n : ℕ) → Bytes (replicate n 0)
-bytes_zeros zero i = lit< tt
-bytes_zeros (suc n) zero = lit< tt
-bytes_zeros (suc n) (suc i) = bytes_zeros n i
+bytes_zeros n i = grind (arith, common_steps)
 
 bytes_over : (s : List ℕ) (at : ℕ) (xs : List ℕ) → Bytes s → Bytes xs → Bytes (over s at xs)
 unfolding over

@@ -1,5 +1,6 @@
 -- Laws on fields: the bytes inside and outside, their number, and storage with a field put in it. What carries it: induction on the count of bytes, from the right.
 use Rattle.std.proofs.Common.{◌≡◌, refl, sym, ◌∙◌, ap, List, [], ◌∷◌, ◌⊎◌, inl, inr, ⊎_elim, ◌↔◌, ℕ, zero, suc, ◌+◌, ◌-◌, ◌*◌, ◌^◌, ◌≤◌, ◌<◌, eq-or-lt_of_le, add-one, arith, lit<, length, get_or, set, length-set, get_or-set_same, get_or-set_other, ext_get_or}
+use Rattle.std.proofs.lemmas.Grind.{common_steps}
 use Rattle.std.proofs.Math.Decide.{dec_lt, dec_le}
 use Rattle.std.proofs.Math.Nat.{sub-zero, pow-succ'}
 use Rattle.manual.specs.Values.{bytes_of, number}
@@ -52,11 +53,7 @@ outside_from n a (suc i) h k = inl (omega arith)
 
 -- with one replaced
 pub set_below : (b : ℕ) (l : List ℕ) (i v : ℕ) → v < b → ((j : ℕ) → get_or l j 0 < b) → (j : ℕ) → get_or (set l i v) j 0 < b
-set_below b [] i v h hs j = hs j
-set_below b (x ∷ l) zero v h hs zero = h
-set_below b (x ∷ l) zero v h hs (suc j) = hs (suc j)
-set_below b (x ∷ l) (suc i) v h hs zero = hs zero
-set_below b (x ∷ l) (suc i) v h hs (suc j) = set_below b l i v h (λ k. hs (suc k)) j
+set_below b l i v h hs j = grind (arith, common_steps, hs j)
 
 -- with one more in front
 pub cons_below : (b x : ℕ) (l : List ℕ) → x < b → ((j : ℕ) → get_or l j 0 < b) → (j : ℕ) → get_or (x ∷ l) j 0 < b

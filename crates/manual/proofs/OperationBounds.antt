@@ -24,7 +24,7 @@ use Rattle.manual.specs.Registers.{is_status, store, load, add, subtract}
 use Rattle.manual.specs.Immediate.{tested, changed, tbn, tbf, sbn, sbf, mvi, cli, sli}
 use Rattle.manual.specs.Branches.{taken, after_test, branch, jump, load_address, call}
 use Rattle.manual.specs.Step.{exec, based, addressed, fields, perform, follow, step}
-use Rattle.manual.proofs.Status.{below, sign_small, order_below, test_below, sum_below, difference_below, zoned_below, loaded_below, after_below}
+use Rattle.manual.proofs.Status.{sign_small, order_below, test_below, sum_below, difference_below, zoned_below, loaded_below, after_below}
 use Rattle.manual.proofs.FieldBytes.{Bytes, cons_below}
 use Rattle.manual.proofs.Compared.{order_small}
 use Rattle.manual.proofs.Sums.{byte_added, byte_subtracted}
@@ -83,8 +83,7 @@ keeps_scan (suc n) a v h = reading λ b hb. keeps_cond (ends_scan b) (giving tt)
 
 half_below : (q x y : ℕ) → x < 256 → y < 256 → half_moved q x y < 256
 unfolding half_moved
-half_below q x y h k =
-    below 256 (eqb q 0x00) _ _ (omega arith) (below 256 (eqb q 0x01) _ _ (omega arith) (below 256 (eqb q 0x02) _ _ (omega arith) (omega arith)))
+half_below q x y h k = grind (arith, nat_tests)
 
 going : {i x : ℕ} → i < 65536 → x < 64 → Keeps BoundedOut (ret (go i x))
 going {i} {x} h k = giving {x = go i x} (h, k)
@@ -188,11 +187,11 @@ module _ (f : Fields) (g : Given) (b : BoundedFields f) (h : g.status < 64) wher
 
   keeps_tbn : Keeps BoundedOut (tbn f g)
   unfolding tbn
-  keeps_tbn = keeps_tested _ (λ x. below 64 (eqb (bit_and x f.q) f.q) g.status (turn_on test_false g.status) h (test_below g.status h))
+  keeps_tbn = keeps_tested _ (λ x. grind (arith, nat_tests, test_below g.status h))
 
   keeps_tbf : Keeps BoundedOut (tbf f g)
   unfolding tbf
-  keeps_tbf = keeps_tested _ (λ x. below 64 (eqb (bit_and x f.q) 0) g.status (turn_on test_false g.status) h (test_below g.status h))
+  keeps_tbf = keeps_tested _ (λ x. grind (arith, nat_tests, test_below g.status h))
 
   keeps_cli : Keeps BoundedOut (cli f g)
   unfolding cli
@@ -228,7 +227,7 @@ module _ (f : Fields) (g : Given) (b : BoundedFields f) (h : g.status < 64) wher
 
   keeps_jump : Keeps BoundedOut (jump f g)
   unfolding jump
-  keeps_jump = going (below 65536 (taken f.q g.status) f.a1 f.next b.a1 b.next) (after_below f.q g.status h)
+  keeps_jump = going (grind (arith, nat_tests)) (after_below f.q g.status h)
 
   keeps_load_address : Keeps BoundedOut (load_address f g)
   unfolding load_address

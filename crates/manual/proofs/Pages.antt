@@ -4,6 +4,7 @@ use Rattle.std.proofs.lemmas.Bool.{and_parts}
 use Rattle.std.proofs.lemmas.List.{length-replicate, replicate-append-replicate, set_split, nil_from_length}
 use Rattle.std.proofs.Math.Seq.{take-length, drop-append-add, paste}
 use Rattle.manual.specs.Deck.{all_zero, page_record, page_records, over}
+use Rattle.manual.proofs.Running.{cond_map}
 
 -- ---- bytes put over others
 
@@ -105,10 +106,7 @@ over_zeros done page at n d l =
 
 -- the length of a page's record does not depend on its number
 pub record_length_lem : (k : ℕ) (page : List ℕ) → length (page_record k page) ≡ length (page_record 0 page)
-record_length_lem k page = go (all_zero page) where
-  go : (b : Bool) → length (cond b [] (0x02 ∷ k ∷ page)) ≡ length (cond b [] (0x02 ∷ 0 ∷ page))
-  go true = refl
-  go false = refl
+record_length_lem k page = cond_map length (all_zero page) [] (0x02 ∷ k ∷ page) ∙ sym (cond_map length (all_zero page) [] (0x02 ∷ 0 ∷ page))
 
 -- the page at the front, and the rest
 module _ (n : ℕ) (s : List ℕ) (l : length s ≡ suc n * 256) where

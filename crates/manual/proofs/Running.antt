@@ -1,5 +1,6 @@
 -- How a program runs, form by form: equations for `simp`, with `val`, `fin` and `did` kept shut. What carries it: induction on the program, once.
 use Rattle.std.proofs.Common.{Ok, Err, ◌≡◌, refl, sym, ◌∙◌, ap, Bool, true, false, cond, ◌&&◌, List, ◌∷◌, ℕ, zero, suc, ◌+◌, ◌-◌, ◌≤◌, ◌<◌, arith, add-zero, le_of_suc-le-suc, not-suc-le-zero, get_or, ltb, leb, ltb-true, leb-true}
+use Rattle.std.proofs.lemmas.Bool.Decides.{nat_tests}
 use Rattle.std.proofs.lemmas.Bool.{false≢true, and_parts}
 use Rattle.manual.specs.declared.Machine.{Machine}
 use Rattle.manual.specs.declared.Answer.TheVariants.{Executed, Stopped}
@@ -143,9 +144,7 @@ clear_cond false e = absurd (false≢true e)
 
 pub reach_clear : (size n a : ℕ) → clear (reach size n a) ≡ true → (a < size) × (n ≤ a + 1)
 unfolding reach
-reach_clear size n a e =
-    let h = and_parts (ltb a size) (leb n (a + 1)) (clear_cond (ltb a size && leb n (a + 1)) e) in
-    (ltb-true a size h.0, leb-true n (a + 1) h.1)
+reach_clear size n a e = grind (arith, nat_tests)
 
 pub reach_right_clear : (size n a : ℕ) → clear (reach_right size n a) ≡ true → a + n ≤ size
 unfolding reach_right

@@ -10,16 +10,10 @@ use Rattle.manual.specs.Logical.{sum_status, difference_status}
 use Rattle.manual.specs.Registers.{loaded_status}
 use Rattle.manual.specs.Branches.{after_test}
 
-pub below : (n : ℕ) (b : Bool) (x y : ℕ) → x < n → y < n → cond b x y < n
-below n b x y h k = cond_both b x y (λ (z : ℕ). z < n) (λ _. h) (λ _. k)
-
 -- ---- an order fits in its three bits
 
 pub order_fits : (z t : Bool) → cond z equal (cond t low high) < 8
 order_fits z t = grind (arith, nat_tests)
-
-pub borrow_fits : (z t : Bool) → cond z equal (cond t high low) < 8
-borrow_fits z t = grind (arith, nat_tests)
 
 pub sign_small : (x : ℤ) → sign_order x < 8
 unfolding sign_order
