@@ -57,8 +57,7 @@ set_below b l i v h hs j = grind (arith, common_steps, hs j)
 
 -- with one more in front
 pub cons_below : (b x : ℕ) (l : List ℕ) → x < b → ((j : ℕ) → get_or l j 0 < b) → (j : ℕ) → get_or (x ∷ l) j 0 < b
-cons_below b x l h hs zero = h
-cons_below b x l h hs (suc j) = hs j
+cons_below b x l h hs j = grind (arith, common_steps, hs (j - 1))
 
 -- ---- the bytes of a field
 

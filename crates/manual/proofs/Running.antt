@@ -138,14 +138,10 @@ pub both_clear : (v w : Way) → clear (and_then v w) ≡ true → (clear v ≡ 
 both_clear v w e = and_parts (clear v) (clear w) (sym (clear_both v w) ∙ e)
 
 -- an operand that is clear to be reached lies in storage
-clear_cond : (b : Bool) → clear (cond b (Ok tt) (Err OperandOutside)) ≡ true → b ≡ true
-clear_cond true e = refl
-clear_cond false e = absurd (false≢true e)
-
 pub reach_clear : (size n a : ℕ) → clear (reach size n a) ≡ true → (a < size) × (n ≤ a + 1)
 unfolding reach
 reach_clear size n a e = grind (arith, nat_tests)
 
 pub reach_right_clear : (size n a : ℕ) → clear (reach_right size n a) ≡ true → a + n ≤ size
 unfolding reach_right
-reach_right_clear size n a e = leb-true (a + n) size (clear_cond (leb (a + n) size) e)
+reach_right_clear size n a e = grind (arith, nat_tests)

@@ -168,11 +168,8 @@ columns_sum s (suc n) a b c l h =
 subtracted_keeps : (x y c : ℕ) → x < 256 → y < 256 → c ≤ 1 → (subtracted x y c).byte + (y + c) ≡ x + 256 * (subtracted x y c).over
 subtracted_keeps x y c h k l = grind (arith, nat_tests)
 
-one_or_none : (t : Bool) → cond t 1 0 ≤ 1
-one_or_none t = grind (arith, nat_tests)
-
 borrows_one : (x y c : ℕ) → (subtracted x y c).over ≤ 1
-borrows_one x y c = one_or_none (ltb x (y + c))
+borrows_one x y c = grind (arith, nat_tests)
 
 difference_more : (x y c k d v w u o p : ℕ) → k + (y + c) ≡ x + 256 * d → v + (u + d) ≡ w + o * p
     → k + 256 * v + (y + 256 * u + c) ≡ x + 256 * w + o * (256 * p)
@@ -254,21 +251,11 @@ carried_over : (r o p x : ℕ) → r + o * p ≡ x → r < p → eqb o 0 ≡ not
 carried_over r zero p x e h = grind (arith, nat_tests)
 carried_over r (suc o) p x e h = grind (arith, nat_tests, suc-mul o p)
 
-carry_order : (z t : Bool) → cond z equal (cond (not t) low high) ≡ cond z equal (cond t high low)
-carry_order z t = grind (arith, nat_tests)
-
 sum_status_lem : (before p x : ℕ) (z t : Bool) → t ≡ not (leb p x) → z ≡ eqb (x % p) 0
     → SumTold p x before (set_order (cond z equal (cond t low high)) (cond t (turn_off binary_overflow before) (turn_on binary_overflow before)))
+unfolding set_order turn_on turn_off
 sum_status_lem before p x z t q k =
-    let y : ℕ = cond t (turn_off binary_overflow before) (turn_on binary_overflow before) in
-    let e : set_order (cond z equal (cond t low high)) y / 8 ≡ y / 8 = order_leaves _ y (order_fits z t) in
-    let b = turned t before in
-    record {
-      carry = overflow_same _ y e ∙ b.0 ∙ ap not q ∙ not-not (leb p x);
-      ordered = order_set _ y (order_fits z t) ∙ (rw (q, k) (carry_order (eqb (x % p) 0) (leb p x)));
-      middle = ap (λ (v : ℕ). v % 4) e ∙ b.1;
-      beyond = (above_same _ y e).1 ∙ b.2;
-    }
+    record { carry = grind (arith, nat_tests); ordered = grind (arith, nat_tests); middle = grind (arith, nat_tests); beyond = grind (arith, nat_tests) }
 
 pub sum_told : (before r p x : ℕ) (c : Columns) → r + c.over * p ≡ x → r < p → c.clear ≡ eqb r 0 → SumTold p x before (sum_status before c)
 unfolding sum_status

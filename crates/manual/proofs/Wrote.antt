@@ -1,6 +1,6 @@
 -- A step's rule writes exactly the places that document 01's list has, in that order; a step that stops writes none.
 -- What carries it: how writing goes through each form of a program, then one line an operation.
-use Rattle.std.proofs.Common.{Ok, Err, Option, Some, None, ◌≡◌, refl, ap, ◌∙◌, Bool, true, false, cond, ◌&&◌, List, [], ◌∷◌, ◌++◌, ℕ, zero, suc, ◌+◌, ◌-◌, ◌/◌, arith, length, get_or, set, append-nil}
+use Rattle.std.proofs.Common.{Ok, Err, Option, Some, None, ◌≡◌, refl, ap, ◌∙◌, Bool, true, false, cond, ◌&&◌, List, [], ◌∷◌, ◌++◌, ℕ, zero, suc, ◌+◌, ◌-◌, ◌/◌, arith, length, get_or, set, append-nil, sym}
 use Rattle.manual.specs.declared.Machine.{Machine}
 use Rattle.manual.specs.declared.Operation.{Operation}
 use Rattle.manual.specs.declared.Operation.TheVariants.{Zaz, Az, Sz, Mvx, Ed, Itc, Mvc, Clc, Alc, Slc, St, L, A, S, Tbn, Tbf, Sbn, Sbf, Mvi, Cli, Sli, Bc, Jc, La, Svc}
@@ -96,11 +96,7 @@ w_put_zoned (suc n) a sign m σ = ap (λ (l : List Place). mem a ∷ l) (w_put_d
 pub w_put_edited : (ps ys : List ℕ) (a : ℕ) (σ : State) → wrote (put_edited ps ys a) σ ≡ the20s ps a
 unfolding put_edited the20s when
 w_put_edited [] ys a σ = w_ret _ σ
-w_put_edited (p ∷ ps) ys a σ = w_cond (takes_digit p) _ _ σ ∙ simp (w_wr, w_put_edited ps) (on (takes_digit p))
-  where
-    on : (b : Bool) → cond b (mem a ∷ the20s ps (a - 1)) (the20s ps (a - 1)) ≡ cond b (mem a ∷ []) [] ++ the20s ps (a - 1)
-    on true = refl
-    on false = refl
+w_put_edited (p ∷ ps) ys a σ = w_cond (takes_digit p) _ _ σ ∙ simp (w_wr, w_put_edited ps) (sym (cond_map (λ (l : List Place). l ++ the20s ps (a - 1)) (takes_digit p) (mem a ∷ []) []))
 
 pub w_scan : (n a v : ℕ) (σ : State) → wrote (scan n a v) σ ≡ span (before σ.bytes n a) a
 unfolding wrote scan before span

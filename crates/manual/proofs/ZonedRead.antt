@@ -10,7 +10,7 @@ use Rattle.manual.specs.declared.Answer.{Answer}
 use Rattle.manual.specs.declared.Answer.TheVariants.{Executed}
 use Rattle.manual.specs.Places.{state}
 use Rattle.manual.specs.Programs.{fin, clear, and_then}
-use Rattle.manual.specs.TheMachine.{decimal_overflow, equal, low, high, is_on}
+use Rattle.manual.specs.TheMachine.{decimal_overflow, equal, low, high, is_on, set_order, turn_on}
 use Rattle.manual.specs.Values.{bytes_of, digit, zone, size, minus, signed, value, all_digits, digits_of, negative, cut, overflows, left_minus, cut_to, sign_order}
 use Rattle.manual.specs.Zoned.{l1, l2, zoned_reach, put_digits, put_zoned, zoned_status, put_result, zaz, combine, az, sz}
 use Rattle.manual.specs.Step.{Outcome, ended, moved, given, did, Gives}
@@ -133,9 +133,7 @@ minus_read t (suc n) a h = refl
 
 pub digits_apart : (t : List ℕ) (n a : ℕ) → all_digits (bytes_of t (suc n) a) ≡ true → (digit (get_or t a 0) ≤ 9) × (all_digits (bytes_of t n (a - 1)) ≡ true)
 unfolding all_digits bytes_of
-digits_apart t n a good =
-    let h = and_parts (leb (digit (get_or t a 0)) 9) (all_digits (bytes_of t n (a - 1))) good in
-    (leb-true (digit (get_or t a 0)) 9 h.0, h.1)
+digits_apart t n a good = grind (arith, nat_tests)
 
 units_of : (d k : ℕ) → d ≤ 9 → ((d + 10 * k) % 10 ≡ d) × ((d + 10 * k) / 10 ≡ k)
 units_of d k h = (omega arith, omega arith)
@@ -264,13 +262,12 @@ module _ (n status : ℕ) (x : ℤ) where
   status_order = order_set (sign_order (cut_to n x)) _ (sign_small (cut_to n x))
 
   pub status_overflow : is_on decimal_overflow (zoned_status n status x) ≡ (overflows n x || is_on decimal_overflow status)
-  unfolding zoned_status
-  status_overflow =
-      ap (λ (k : ℕ). eqb (k % 2) 1) (order_leaves (sign_order (cut_to n x)) _ (sign_small (cut_to n x))) ∙ (overflow_set (overflows n x) status).0
+  unfolding zoned_status set_order turn_on
+  status_overflow = grind (arith, nat_tests, sign_small (cut_to n x))
 
   pub status_others : zoned_status n status x / 16 ≡ status / 16
-  unfolding zoned_status
-  status_others = (above_same _ _ (order_leaves (sign_order (cut_to n x)) _ (sign_small (cut_to n x)))).0 ∙ (overflow_set (overflows n x) status).1
+  unfolding zoned_status set_order turn_on
+  status_others = grind (arith, nat_tests, sign_small (cut_to n x))
 
 -- ---- equal, low and high by the number being zero, minus and plus
 

@@ -1,5 +1,6 @@
 -- A program depends on what it reads alone, and keeps what it doesn't write. What carries it: three clauses, one for each form of a program.
 use Rattle.std.proofs.Common.{◌≡◌, refl, sym, ◌∙◌, Bool, true, false, not, ◌&&◌, ◌||◌, true≢false, List, [], ◌∷◌, ℕ, zero, suc, arith, length, get_or, set, length-set, eqb-true, eq-eqb, get_or-set_other}
+use Rattle.std.proofs.lemmas.Grind.{common_steps}
 use Rattle.std.proofs.lemmas.Bool.Decides.{nat_tests}
 use Rattle.std.proofs.lemmas.Bool.{false≢true, eqb-false, or_right, or_parts}
 use Rattle.std.proofs.Math.Bool.{and-true}
@@ -21,11 +22,7 @@ same_refl (reg Xr2) = refl
 same_refl (reg (Work i)) = eq-eqb i i refl
 
 set_same : (s t : List ℕ) (a v : ℕ) → length s ≡ length t → get_or (set s a v) a 0 ≡ get_or (set t a v) a 0
-set_same [] [] a v n = refl
-set_same [] (y ∷ t) a v n = absurd (omega arith)
-set_same (x ∷ s) [] a v n = absurd (omega arith)
-set_same (x ∷ s) (y ∷ t) zero v n = refl
-set_same (x ∷ s) (y ∷ t) (suc a) v n = set_same s t a v (omega arith)
+set_same s t a v n = grind (arith, common_steps)
 
 -- a written place holds the same in both
 module _ (v : ℕ) (σ τ : State) (n : length σ.bytes ≡ length τ.bytes) (w : length σ.machine.wr ≡ length τ.machine.wr) where
