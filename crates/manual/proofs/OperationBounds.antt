@@ -1,5 +1,5 @@
 -- Every operation, and the step as a whole, keeps the numbers below their limits. What carries it: `Keeps` through each part of a rule, then one operation a time.
-use Rattle.std.proofs.Common.{Ok, Err, Option, Some, None, Bool, List, [], ◌∷◌, ℕ, zero, suc, ◌+◌, ◌-◌, ◌/◌, ◌%◌, ◌<◌, arith, lt_of_le_of_lt, get_or, drop, eqb, ltb, leb, lit<, ℤ, ◌+ℤ◌, ◌-ℤ◌, bit_and}
+use Rattle.std.proofs.Common.{Ok, Err, Option, Some, None, Bool, List, [], ◌∷◌, ℕ, zero, suc, ◌+◌, ◌-◌, ◌/◌, ◌%◌, ◌<◌, arith, lt_of_le_of_lt, get_or, drop, ltb, leb, lit<, ℤ, ◌+ℤ◌, ◌-ℤ◌}
 use Rattle.std.proofs.lemmas.Bool.Decides.{nat_tests}
 use Rattle.std.proofs.lemmas.Bool.{cond_both}
 use Rattle.std.proofs.lemmas.Nat.{or_lt, and_le_l}
@@ -13,7 +13,7 @@ use Rattle.manual.specs.declared.Instruction.{Instruction}
 use Rattle.manual.specs.declared.Fields.{Fields}
 use Rattle.manual.specs.declared.Columns.{Columns}
 use Rattle.manual.specs.Programs.{Prog, ret, rightward, leftward, Out, stop, go, Given}
-use Rattle.manual.specs.TheMachine.{test_false, turn_on, order_of}
+use Rattle.manual.specs.TheMachine.{order_of}
 use Rattle.manual.specs.Formats.{form_of, named_of, first_base, width_of, allowed, reach, reach_right}
 use Rattle.manual.specs.Values.{value, digits_of, sign_order}
 use Rattle.manual.specs.Decode.{number_at, instruction_of, fetch_named, fetch, Decoded}

@@ -1,5 +1,5 @@
 -- Bytes put over others, zeros, and the pages of a storage with their records. What carries it: lists are cut where one of their parts ends.
-use Rattle.std.proofs.Common.{ℕ, zero, suc, ◌+◌, ◌≤◌, ◌<◌, ◌-◌, ◌*◌, Bool, true, false, cond, List, [], ◌∷◌, ◌++◌, append_assoc, append-nil, ◌≡◌, refl, ap, sym, ◌∙◌, add-zero, zero-add, add_assoc, add-one, arith, eqb-true, eqb, length, set, take, drop, length-append, length-drop, take-append-drop, replicate, length-take-le, take_at, drop-drop, drop_at}
+use Rattle.std.proofs.Common.{ℕ, zero, suc, ◌+◌, ◌≤◌, ◌<◌, ◌-◌, ◌*◌, true, false, List, [], ◌∷◌, ◌++◌, append_assoc, append-nil, ◌≡◌, refl, ap, sym, ◌∙◌, add-zero, zero-add, add_assoc, add-one, arith, eqb-true, eqb, length, set, take, drop, length-append, length-drop, take-append-drop, replicate, length-take-le, take_at, drop-drop, drop_at}
 use Rattle.std.proofs.lemmas.Bool.{and_parts}
 use Rattle.std.proofs.lemmas.List.{length-replicate, replicate-append-replicate, set_split, nil_from_length}
 use Rattle.std.proofs.Math.Seq.{take-length, drop-append-add, paste}

@@ -1,11 +1,10 @@
 -- How a program runs, form by form: equations for `simp`, with `val`, `fin` and `did` kept shut. What carries it: induction on the program, once.
-use Rattle.std.proofs.Common.{Ok, Err, ◌≡◌, refl, sym, ◌∙◌, ap, Bool, true, false, cond, ◌&&◌, List, ◌∷◌, ℕ, zero, suc, ◌+◌, ◌-◌, ◌≤◌, ◌<◌, arith, add-zero, le_of_suc-le-suc, not-suc-le-zero, get_or, ltb, leb, ltb-true, leb-true}
+use Rattle.std.proofs.Common.{Ok, Err, ◌≡◌, refl, sym, ◌∙◌, ap, Bool, true, false, cond, ◌&&◌, List, ◌∷◌, ℕ, zero, suc, ◌+◌, ◌-◌, ◌≤◌, ◌<◌, arith, add-zero, le_of_suc-le-suc, not-suc-le-zero, get_or}
 use Rattle.std.proofs.lemmas.Bool.Decides.{nat_tests}
 use Rattle.std.proofs.lemmas.Bool.{false≢true, and_parts}
 use Rattle.manual.specs.declared.Machine.{Machine}
 use Rattle.manual.specs.declared.Answer.TheVariants.{Executed, Stopped}
 use Rattle.manual.specs.declared.Stop.{Stop}
-use Rattle.manual.specs.declared.Stop.TheVariants.{OperandOutside}
 use Rattle.manual.specs.Places.{Place, State, state, look, put}
 use Rattle.manual.specs.Programs.{Prog, ret, rd, wr, val, fin, ◌>>=◌, rightward, leftward, Out, stop, go, Rule, clear, unless, and_then, Way}
 use Rattle.manual.specs.Formats.{reach, reach_right}

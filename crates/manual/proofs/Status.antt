@@ -1,7 +1,6 @@
 -- The status: its order is set, a bit goes on or off, what isn't named stays, and below 64 it stays there. What carries it: each bit is told by a division.
 use Rattle.std.proofs.Common.{◌≡◌, ap, Bool, cond, not, ◌||◌, ℕ, ◌/◌, ◌%◌, ◌<◌, arith, eqb, ℤ, nat_abs}
 use Rattle.std.proofs.lemmas.Bool.Decides.{nat_tests}
-use Rattle.std.proofs.lemmas.Bool.{cond_both}
 use Rattle.manual.specs.declared.Columns.{Columns}
 use Rattle.manual.specs.TheMachine.{binary_overflow, test_false, decimal_overflow, equal, low, high, is_on, turn_on, turn_off, set_order}
 use Rattle.manual.specs.Values.{negative, sign_order, cut_to}

@@ -1,7 +1,7 @@
 -- ALC and SLC give the sum and difference of two numbers modulo 256 to the L, with carry and order told. What carries it: each column keeps the sum so far.
 use Rattle.std.proofs.Common.{◌≡◌, refl, sym, ◌∙◌, ap, subst, ◌⊎◌, inl, inr, Bool, true, cond, not, ◌&&◌, List, [], ◌∷◌, ℕ, zero, suc, ◌+◌, ◌-◌, ◌*◌, ◌/◌, ◌%◌, ◌^◌, ◌≤◌, ◌<◌, mul_left_comm, mod-lt, mod-eq_of_lt, suc-mul, add-zero, arith, eqb, leb, ltb, lit<, lit≤, length, get_or, set, length-set, get_or-set_same, get_or-set_other}
 use Rattle.std.proofs.lemmas.Bool.Decides.{nat_tests}
-use Rattle.std.proofs.Math.Bool.{and_assoc, and-true, not-not}
+use Rattle.std.proofs.Math.Bool.{and_assoc, and-true}
 use Rattle.std.proofs.Math.Nat.{pow-succ', add-mul-mod_self_right, add-mod_right}
 use Rattle.manual.specs.declared.Machine.{Machine}
 use Rattle.manual.specs.declared.Fields.{Fields}
@@ -18,7 +18,7 @@ use Rattle.manual.specs.Step.{Outcome, ended, moved, did}
 use Rattle.manual.proofs.Running.{doing, unless_clear, both_clear, reach_clear}
 use Rattle.manual.proofs.FieldBytes.{Bytes, Outside, outside_apart, outside_left, outside_from, set_below}
 use Rattle.manual.proofs.FieldBytes.{bytes_of_lem, bytes_beside, left_stays, left_inside, number_more, number_below, field_below}
-use Rattle.manual.proofs.Status.{order_fits, order_set, order_leaves, overflow_same, above_same, turned}
+use Rattle.manual.proofs.Status.{order_set, order_leaves}
 use Rattle.manual.proofs.Compared.{order_small}
 
 -- the column at the addresses a and b

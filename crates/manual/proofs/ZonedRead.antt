@@ -1,7 +1,6 @@
 -- The field that AZ, SZ and ZAZ leave, read back, is the exact signed result cut to it. What carries it: the digits written from the right are those of the cut size.
-use Rattle.std.proofs.Common.{Ok, ◌≡◌, refl, sym, ◌∙◌, ap, Bool, true, false, cond, not, ◌&&◌, ◌||◌, List, ◌↔◌, ◌≢◌, ℕ, zero, suc, ◌+◌, ◌-◌, ◌*◌, ◌/◌, ◌%◌, ◌^◌, ◌≤◌, ◌<◌, arith, mod-eq_of_lt, length, get_or, set, length-set, get_or-set_same, get_or-set_other, eqb, leb, ℤ, pos, negsuc, nat_abs, ◌+ℤ◌, ◌-ℤ◌, leb-true, leb-false, le-leb}
+use Rattle.std.proofs.Common.{Ok, ◌≡◌, refl, sym, ◌∙◌, ap, Bool, true, false, cond, not, ◌&&◌, ◌||◌, List, ◌↔◌, ◌≢◌, ℕ, zero, suc, ◌+◌, ◌-◌, ◌*◌, ◌/◌, ◌%◌, ◌^◌, ◌≤◌, ◌<◌, arith, mod-eq_of_lt, length, get_or, set, length-set, get_or-set_same, get_or-set_other, eqb, leb, ℤ, pos, negsuc, nat_abs, ◌+ℤ◌, ◌-ℤ◌, leb-false, le-leb}
 use Rattle.std.proofs.lemmas.Bool.Decides.{nat_tests}
-use Rattle.std.proofs.lemmas.Bool.{and_parts}
 use Rattle.std.proofs.Math.Nat.{zero-mod, mod-mod, sub-zero}
 use Rattle.std.proofs.Math.Dec.{eqb-suc-zero}
 use Rattle.manual.specs.declared.Machine.{Machine}
@@ -15,7 +14,7 @@ use Rattle.manual.specs.Values.{bytes_of, digit, zone, size, minus, signed, valu
 use Rattle.manual.specs.Zoned.{l1, l2, zoned_reach, put_digits, put_zoned, zoned_status, put_result, zaz, combine, az, sz}
 use Rattle.manual.specs.Step.{Outcome, ended, moved, given, did, Gives}
 use Rattle.manual.proofs.Running.{from, did_from, from_bind, from_go, val_leftward, fin_leftward, unless_clear, both_clear, reach_clear}
-use Rattle.manual.proofs.Status.{sign_small, order_set, order_leaves, above_same, overflow_set}
+use Rattle.manual.proofs.Status.{sign_small, order_set}
 use Rattle.manual.proofs.FieldBytes.{Outside, written, outside_apart, written_length, written_outside, written_inside, written_same, written-first, written_once}
 use Rattle.manual.proofs.Digits.{digit_at, digit_units, digit_next, digit_small, digit-cut, cut_next}
 
