@@ -26,10 +26,10 @@ module _ (s page rest : List ℕ) (l : length page ≡ 256) (e : s ≡ page ++ r
       let z : length s / 256 ≡ suc (length rest / 256) = omega (arith, simp length-append at (ap length e)) in
       rw (z, e, take_at page rest 256 l, drop_at page rest 256 l)
 
-  pub length_turn : (k : ℕ) → length (page_records (length s / 256) k s) ≡ length (page_record k page) + length (page_records (length rest / 256) (k + 1) rest)
+  length_turn : (k : ℕ) → length (page_records (length s / 256) k s) ≡ length (page_record k page) + length (page_records (length rest / 256) (k + 1) rest)
   length_turn k = rw (records_turn k) (length-append (page_record k page) _)
 
-pub records_done : (s : List ℕ) (k : ℕ) → length s < 256 → page_records (length s / 256) k s ≡ []
+records_done : (s : List ℕ) (k : ℕ) → length s < 256 → page_records (length s / 256) k s ≡ []
 unfolding page_records
 records_done s k h = let z : length s / 256 ≡ 0 = omega arith in rw z
 
@@ -46,13 +46,20 @@ records_most zero k s = omega arith
 records_most (suc n) k s = let a = page_most k s in simp length-append (omega (arith, records_most n (k + 1) (drop 256 s)))
 
 -- a page's number doesn't count for the length
-pub same_length : (n k j : ℕ) (s : List ℕ) → length (page_records n k s) ≡ length (page_records n j s)
+same_length : (n k j : ℕ) (s : List ℕ) → length (page_records n k s) ≡ length (page_records n j s)
 unfolding page_records
 same_length zero k j s = refl
 same_length (suc n) k j s =
     let a = record_length_lem k (take 256 s) in
     let b = record_length_lem j (take 256 s) in
     simp length-append (omega (arith, same_length n (k + 1) (j + 1) (drop 256 s)))
+
+pub length_next : (s page rest : List ℕ) → s ≡ page ++ rest → length page ≡ 256
+    → length (page_records (length s / 256) 0 s) ≡ length (page_record 0 page) + length (page_records (length rest / 256) 0 rest)
+length_next s page rest e l = omega (arith, length_turn s page rest l e 0, same_length (length rest / 256) 1 0 rest)
+
+pub length_done : (s : List ℕ) → length s < 256 → length (page_records (length s / 256) 0 s) ≡ 0
+length_done s h = ap length (records_done s 0 h)
 
 -- The records of what is left, put at `at` over the output as it is now, give the whole, and end at `end`.
 pub record Writing (s out whole : List ℕ) (k at end : ℕ) : Type 0 where

@@ -19,6 +19,7 @@ fn page_length(page: &[u8]) -> usize
 }
 
 /// The length of the deck of a storage.
+#[tactic(auto, using(crate::proofs::Writing::length_next, crate::proofs::Writing::length_done, crate::proofs::Writing::records_most))]
 pub(crate) fn deck_length(s: &[u8]) -> usize
     ensures { result ≡ 20 + length (page_records (length s.now / 256) 0 s.now) }
 {
