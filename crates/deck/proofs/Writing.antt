@@ -1,12 +1,12 @@
 -- The turns of the writer's loops, and the parts of a deck put one behind the other. What carries it: bytes put right behind others (`over_over`).
-use Rattle.std.proofs.Common.{◌≡◌, ℕ, zero, suc, ◌+◌, ◌*◌, ◌/◌, ◌<◌, ◌≤◌, List, [], ◌∷◌, ◌++◌, length, take, drop, Bool, true, false, cond, refl, ap, sym, ◌∙◌, arith, length-append, length-take}
+use Rattle.std.proofs.Common.{◌≡◌, ℕ, zero, suc, ◌+◌, ◌*◌, ◌/◌, ◌<◌, ◌≤◌, List, [], ◌∷◌, ◌++◌, length, take, drop, Bool, true, false, cond, refl, ap, ◌∙◌, arith, length-append, length-take}
 use lib.ListN.{set}
 use lib.Seq.{take_at, drop_at}
 use borrow.Rule.Slice.PartMut.{put_mid}
 use Rattle.std.proofs.lemmas.Slice.{put_mid-paste}
 use Rattle.manual.specs.declared.Machine.{Machine}
 use Rattle.manual.specs.Deck.{all_zero, machine_record, page_record, page_records, deck_of, over}
-use Rattle.manual.proofs.Pages.{length_over, over_none, over_over, over_one, paste_all, record_length_lem}
+use Rattle.manual.proofs.Pages.{length_over, over_over, over_one, paste_all, record_length_lem}
 use Rattle.manual.proofs.Decks.{length_parts}
 
 -- a part of a list, written over
@@ -14,22 +14,23 @@ pub put_over : (at n : ℕ) (s t bytes : List ℕ) → t ≡ bytes → n ≡ len
 put_over at n s t bytes e l = put_mid-paste at n s t bytes n e refl l ∙ rw l (paste_all s at bytes)
 
 -- where a page's record fits, its 258 bytes do
-pub record_room : (k at n : ℕ) (page : List ℕ) → all_zero page ≡ false → (length page ≡ 256) × (at + length (page_record k page) ≤ n) → at + 258 ≤ n
-record_room k at n page b h = let f = rw b at h.1 in omega arith
+pub record_room : (k at n : ℕ) (page : List ℕ) → all_zero page ≡ false → length page ≡ 256 → at + length (page_record k page) ≤ n → at + 258 ≤ n
+record_room k at n page b l h = let f = rw b at h in omega arith
 
 -- ---- a page, and the pages behind it
 
-module _ (s page rest : List ℕ) (l : length page ≡ 256) (e : s ≡ page ++ rest) where
-  records_turn : (k : ℕ) → page_records (length s / 256) k s ≡ page_record k page ++ page_records (length rest / 256) (k + 1) rest
-  unfolding page_records
-  records_turn k =
-      let z : length s / 256 ≡ suc (length rest / 256) = omega (arith, simp length-append at (ap length e)) in
-      rw (z, e, take_at page rest 256 l, drop_at page rest 256 l)
+records_turn : (s page rest : List ℕ) (k : ℕ) → s ≡ page ++ rest → length page ≡ 256
+    → page_records (length s / 256) k s ≡ page_record k page ++ page_records (length rest / 256) (k + 1) rest
+unfolding page_records
+records_turn s page rest k e l =
+    let z : length s / 256 ≡ suc (length rest / 256) = omega (arith, simp length-append at (ap length e)) in
+    rw (z, e, take_at page rest 256 l, drop_at page rest 256 l)
 
-  length_turn : (k : ℕ) → length (page_records (length s / 256) k s) ≡ length (page_record k page) + length (page_records (length rest / 256) (k + 1) rest)
-  length_turn k = rw (records_turn k) (length-append (page_record k page) _)
+pub length_turn : (s page rest : List ℕ) (k : ℕ) → s ≡ page ++ rest → length page ≡ 256
+    → length (page_records (length s / 256) k s) ≡ length (page_record k page) + length (page_records (length rest / 256) (k + 1) rest)
+length_turn s page rest k e l = rw (records_turn s page rest k e l) (length-append (page_record k page) _)
 
-records_done : (s : List ℕ) (k : ℕ) → length s < 256 → page_records (length s / 256) k s ≡ []
+pub records_done : (s : List ℕ) (k : ℕ) → length s < 256 → page_records (length s / 256) k s ≡ []
 unfolding page_records
 records_done s k h = let z : length s / 256 ≡ 0 = omega arith in rw z
 
@@ -56,33 +57,17 @@ same_length (suc n) k j s =
 
 pub length_next : (s page rest : List ℕ) → s ≡ page ++ rest → length page ≡ 256
     → length (page_records (length s / 256) 0 s) ≡ length (page_record 0 page) + length (page_records (length rest / 256) 0 rest)
-length_next s page rest e l = omega (arith, length_turn s page rest l e 0, same_length (length rest / 256) 1 0 rest)
+length_next s page rest e l = omega (arith, length_turn s page rest 0 e l, same_length (length rest / 256) 1 0 rest)
 
 pub length_done : (s : List ℕ) → length s < 256 → length (page_records (length s / 256) 0 s) ≡ 0
 length_done s h = ap length (records_done s 0 h)
 
--- The records of what is left, put at `at` over the output as it is now, give the whole, and end at `end`.
-pub record Writing (s out whole : List ℕ) (k at end : ℕ) : Type 0 where
-  pub place : at + length (page_records (length s / 256) k s) ≡ end
-  pub is : over out at (page_records (length s / 256) k s) ≡ whole
-
-pub writing_end : {s out whole : List ℕ} {k at end : ℕ} → Writing s out whole k at end → length s < 256 → (at ≡ end) × (out ≡ whole)
-writing_end {s} {out} {whole} {k} {at} {end} w h =
-    let d = records_done s k h in
-    let p = rw d at w.place in
-    (omega arith, sym (over_none out at) ∙ rw d at w.is)
-
-module _ {s out whole : List ℕ} {k at end : ℕ} (page rest : List ℕ) (w : Writing s out whole k at end) (l : length page ≡ 256) (e : s ≡ page ++ rest) (fits : end ≤ length out) where
-  pub writing_room : at + length (page_record k page) ≤ length out
-  writing_room = omega (arith, length_turn s page rest l e k, w.place)
-
-  pub writing_turn : {out' : List ℕ} {k' at' : ℕ} → out' ≡ over out at (page_record k page) → at' ≡ at + length (page_record k page) → k' ≡ k + 1
-      → Writing rest out' whole k' at' end
-  writing_turn o a n =
-      record {
-        place = rw (a, n) (omega (arith, length_turn s page rest l e k, w.place));
-        is = rw (o, a, n) (over_over out at (page_record k page) writing_room _ ∙ rw (← (records_turn s page rest l e k)) w.is);
-      }
+-- a page's record and then the others are all the records from that page on
+pub over_turn : (s page rest : List ℕ) (k : ℕ) (out : List ℕ) (at : ℕ) → s ≡ page ++ rest → length page ≡ 256 → at + length (page_records (length s / 256) k s) ≤ length out
+    → over (over out at (page_record k page)) (at + length (page_record k page)) (page_records (length rest / 256) (k + 1) rest) ≡ over out at (page_records (length s / 256) k s)
+over_turn s page rest k out at e l fits =
+    let t = length_turn s page rest k e l in
+    over_over out at (page_record k page) (omega arith) _ ∙ rw (← (records_turn s page rest k e l))
 
 -- the three parts of a deck, put one behind the other
 pub deck_over : (m : Machine) (s out head paged : List ℕ) (end : ℕ) → length (deck_of m s) ≤ length out

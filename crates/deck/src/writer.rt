@@ -34,7 +34,8 @@ pub(crate) fn deck_length(s: &[u8]) -> usize
 // Writes a page's record, if it has one, at the place `at`, and returns the place after it.
 #[tactic(auto, using(manual::proofs::Pages::over_none, manual::proofs::Pages::over_two, crate::proofs::Writing::put_over, crate::proofs::Writing::record_room))]
 fn write_page(number: u8, bytes: &[u8], out: &mut [u8], at: usize) -> usize
-    requires { (length bytes.now ≡ 256) × (at + length (page_record number bytes.now) ≤ length out.old) }
+    requires whole { length bytes.now ≡ 256 }
+    requires room { at + length (page_record number bytes.now) ≤ length out.old }
     ensures value { result ≡ at + length (page_record number bytes.now) }
     ensures out_after { out.new ≡ over out.old at (page_record number bytes.now) }
 {
@@ -49,6 +50,7 @@ fn write_page(number: u8, bytes: &[u8], out: &mut [u8], at: usize) -> usize
 }
 
 // Writes the records of the pages behind the first record, and returns the place after them.
+#[tactic(auto, using(crate::proofs::Writing::length_turn, crate::proofs::Writing::over_turn, crate::proofs::Writing::records_done, manual::proofs::Pages::over_none))]
 fn write_pages(s: &[u8], out: &mut [u8]) -> usize
     requires s_len_bound { length s.now ≤ 65536 }
     requires s_in_bounds { 19 + length (page_records (length s.now / 256) 0 s.now) ≤ length out.old }

@@ -1,29 +1,26 @@
--- A page more and the pages behind it are the pages that were left (`writing_turn`).
+-- A page more and the pages behind it are the pages that were left.
 use Rattle.std.proofs.Common.{◌∙◌, length, ap, rules, arith, length-append}
-use Rattle.deck.proofs.Writing.{writing_turn, writing_end, writing_room}
+use Rattle.std.specs.Iterator.Adapters.{enumerate_count}
+use Rattle.deck.proofs.Writing.{length_turn, over_turn}
 use Rattle.deck.proofs.writer.write_pages.Goals as goal
 
-pub write_page-at-requires : goal.write_page-at-requires
-write_page-at-requires c =
+pub write_page-at-requires-clause-room : goal.write_page-at-requires-clause-room
+write_page-at-requires-clause-room c =
     let i = c.loop-number.invariant in
     let s = c.in-Some.ensures.steps in
-    let l = s.0.1.1 ∙ i.size in
-    (l, rw s.1 (writing_room _ _ i.writing l s.0.1.0 (omega arith)))
+    rw s.1 (omega (arith, length_turn _ _ _ (enumerate_count c.loop-number.number-iterator) s.0.1.0 (s.0.1.1 ∙ i.size), i.place))
 
 pub loop-number-preserved : goal.loop-number-preserved
 loop-number-preserved c =
     let i = c.loop-number.invariant in
     let s = c.in-Some.ensures.steps in
     let l = s.0.1.1 ∙ i.size in
+    let k = enumerate_count c.loop-number.number-iterator in
+    let w = c.write_page-at.ensures in
     record {
       can = search rules;
       size = s.0.0 ∙ i.size;
       small = omega (arith, i.small, s.2, l, simp length-append at (ap length s.0.1.0));
-      writing = writing_turn _ _ i.writing l s.0.1.0 (omega arith) (rw s.1 at c.write_page-at.ensures.out_after) (rw s.1 at c.write_page-at.ensures.value) s.2;
+      place = rw (w.value, s.1, s.2) (omega (arith, length_turn _ _ _ k s.0.1.0 l, i.place));
+      is = rw (w.out_after, w.value, s.1, s.2) (over_turn _ _ _ k _ _ s.0.1.0 l (omega (arith, i.place)) ∙ i.is);
     }
-
-pub returns-clause-value : goal.returns-clause-value
-returns-clause-value c = let i = c.loop-number.invariant in (writing_end i.writing (rw i.size at c.in-None.ensures.steps.0.1.0)).0
-
-pub returns-clause-out_after : goal.returns-clause-out_after
-returns-clause-out_after c = let i = c.loop-number.invariant in (writing_end i.writing (rw i.size at c.in-None.ensures.steps.0.1.0)).1
