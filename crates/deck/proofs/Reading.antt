@@ -17,7 +17,7 @@ module _ {d t : List ℕ} {p : Page} (r : IsPage d p t) where
   pub page_shorter : length t < length d
   page_shorter = let w = r.whole in rw r.behind (simp length-drop (omega arith))
 
-  pub page_length : length p.bytes.now ≡ 256
+  page_length : length p.bytes.now ≡ 256
   page_length = let w = r.whole in rw r.bytes (omega (arith, length-take {A = ℕ} 256 (drop 2 d), length-drop {A = ℕ} 2 d))
 
   page_taken : (pages next : ℕ) (more : ReadAnswer) → later_record d pages next more ≡ page_answer d pages next more
@@ -97,8 +97,8 @@ module _ {d s whole : List ℕ} (l : Laying d s whole) where
     page_here : PageThen (pred l.turns) d (length s / 256) l.next
     page_here = ⊎_elim (λ w. w) (λ w. absurd (omega (arith, w.kind, r.kind))) (later_cases (pred l.turns) d (length s / 256) l.next (rw one_more at l.good))
 
-    pub laying_fits : p.number * 256 + 256 ≤ length s
-    laying_fits = omega (arith, rw (← r.number) at page_here.page.below)
+    pub laying_fits : p.number * 256 + length p.bytes.now ≤ length s
+    laying_fits = rw (page_length r) (omega (arith, rw (← r.number) at page_here.page.below))
 
     pub laying_page : Laying t (over s (p.number * 256) p.bytes.now) whole
     unfolding paged
@@ -107,6 +107,6 @@ module _ {d s whole : List ℕ} (l : Laying d s whole) where
           turns = pred l.turns;
           next = get_or d 1 0 + 1;
           enough = omega (arith, page_shorter r, l.enough);
-          good = rw (length_over s (p.number * 256) p.bytes.now (omega (arith, laying_fits, page_length r)), r.behind) page_here.more;
+          good = rw (length_over s (p.number * 256) p.bytes.now laying_fits, r.behind) page_here.more;
           gives = l.gives ∙ rw (one_more, r.kind, r.behind, r.bytes, r.number);
         }

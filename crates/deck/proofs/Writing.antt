@@ -13,9 +13,9 @@ use Rattle.manual.proofs.Decks.{length_parts}
 pub put_over : (at n : ℕ) (s t bytes : List ℕ) → t ≡ bytes → n ≡ length bytes → put_mid at n s t ≡ over s at bytes
 put_over at n s t bytes e l = put_mid-paste at n s t bytes n e refl l ∙ rw l (paste_all s at bytes)
 
--- where a page's record fits, its 258 bytes do
-pub record_room : (k at n : ℕ) (page : List ℕ) → all_zero page ≡ false → length page ≡ 256 → at + length (page_record k page) ≤ n → at + 258 ≤ n
-record_room k at n page b l h = let f = rw b at h in omega arith
+-- where a page's record fits, its bytes do
+pub record_room : (k at n : ℕ) (page : List ℕ) → all_zero page ≡ false → at + length (page_record k page) ≤ n → at + 2 + length page ≤ n
+record_room k at n page b h = let f = rw b at h in omega arith
 
 -- ---- a page, and the pages behind it
 

@@ -3,18 +3,17 @@ ghost use Rattle.std.specs.Prelude.{true, ◌≡◌, ◌+◌, ◌/◌, ◌≤◌
 ghost use Rattle.manual.specs.TheMachine.{size_allowed};
 ghost use Rattle.manual.specs.Deck.{deck_of, over, page_record, page_records};
 
-use crate::format::{self, HEAD, Kind, PAGE, PAGE_RECORD};
+use crate::format::{self, HEAD, Kind, PAGE};
 use manual::Machine;
 
 // The length of a page's record: none where the page is all zero.
 fn page_length(page: &[u8]) -> usize
-    requires { length page.now ≡ 256 }
-    ensures { (result ≡ length (page_record 0 page.now)) × (result ≤ 258) }
+    ensures { result ≡ length (page_record 0 page.now) }
 {
     if format::all_zero(page) {
         0
     } else {
-        PAGE_RECORD
+        2 + page.len()
     }
 }
 
@@ -34,15 +33,14 @@ pub(crate) fn deck_length(s: &[u8]) -> usize
 // Writes a page's record, if it has one, at the place `at`, and returns the place after it.
 #[tactic(auto, using(manual::proofs::Pages::over_none, manual::proofs::Pages::over_two, crate::proofs::Writing::put_over, crate::proofs::Writing::record_room))]
 fn write_page(number: u8, bytes: &[u8], out: &mut [u8], at: usize) -> usize
-    requires whole { length bytes.now ≡ 256 }
-    requires room { at + length (page_record number bytes.now) ≤ length out.old }
+    requires { at + length (page_record number bytes.now) ≤ length out.old }
     ensures value { result ≡ at + length (page_record number bytes.now) }
     ensures out_after { out.new ≡ over out.old at (page_record number bytes.now) }
 {
     if format::all_zero(bytes) {
         return at;
     }
-    let after = at + PAGE_RECORD;
+    let after = at + 2 + bytes.len();
     out[at] = Kind::Page as u8;
     out[at + 1] = number;
     out[at + 2..after].copy_from_slice(bytes);

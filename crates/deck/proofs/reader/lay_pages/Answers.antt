@@ -1,10 +1,10 @@
 -- A page has its place, and what is behind it is shorter; at the end the whole is laid; no record of an accepted deck is refused.
 use Rattle.std.proofs.Common.{rules}
-use Rattle.deck.proofs.Reading.{page_length, page_shorter, laying_fits, laying_end, laying_refused}
+use Rattle.deck.proofs.Reading.{page_shorter, laying_fits, laying_end, laying_refused}
 use Rattle.deck.proofs.reader.lay_pages.Goals as goal
 
 pub lay-requires : goal.lay-requires
-lay-requires c = let r = rw c.in-Ok-Some.field-0-is at c.in-Ok-Some.ensures.page in (page_length r, laying_fits c.loop-page.invariant r)
+lay-requires c = laying_fits c.loop-page.invariant (rw c.in-Ok-Some.field-0-is at c.in-Ok-Some.ensures.page)
 
 pub loop-page-smaller : goal.loop-page-smaller
 loop-page-smaller c = page_shorter (rw c.in-Ok-Some.field-0-is at c.in-Ok-Some.ensures.page)

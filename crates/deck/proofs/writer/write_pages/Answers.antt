@@ -4,8 +4,8 @@ use Rattle.std.specs.Iterator.Adapters.{enumerate_count}
 use Rattle.deck.proofs.Writing.{length_turn, over_turn}
 use Rattle.deck.proofs.writer.write_pages.Goals as goal
 
-pub write_page-at-requires-clause-room : goal.write_page-at-requires-clause-room
-write_page-at-requires-clause-room c =
+pub write_page-at-requires : goal.write_page-at-requires
+write_page-at-requires c =
     let i = c.loop-number.invariant in
     let s = c.in-Some.ensures.steps in
     rw s.1 (omega (arith, length_turn _ _ _ (enumerate_count c.loop-number.number-iterator) s.0.1.0 (s.0.1.1 ∙ i.size), i.place))
