@@ -36,8 +36,13 @@ pub record Reading (d : List ℕ) (pages next : ℕ) (whole : ReadAnswer) : Type
   pub enough : length d < turns
   pub gives : whole ≡ later_answer turns d pages next
 
-pub reading_starts : (deck rest : List ℕ) (pages : ℕ) → 19 ≤ length deck → rest ≡ drop 19 deck → Reading rest pages 0 (later_answer (length deck) (drop 19 deck) pages 0)
-reading_starts deck rest pages h e = rw e (record { turns = length deck; enough = simp length-drop (omega arith); gives = refl })
+pub reading_starts : (rest : List ℕ) (pages : ℕ) → Reading rest pages 0 (later_answer (19 + length rest) rest pages 0)
+reading_starts rest pages = record { turns = 19 + length rest; enough = omega arith; gives = refl }
+
+-- the records after the first have as many turns as the deck has bytes
+pub deck_rest : (deck rest : List ℕ) (pages : ℕ) → 19 ≤ length deck → rest ≡ drop 19 deck
+    → later_answer (19 + length rest) rest pages 0 ≡ later_answer (length deck) (drop 19 deck) pages 0
+deck_rest deck rest pages h e = let n : 19 + length (drop 19 deck) ≡ length deck = simp length-drop (omega arith) in rw (e, n)
 
 module _ {d : List ℕ} {pages next : ℕ} {whole : ReadAnswer} (l : Reading d pages next whole) where
   -- the record at the front, and what comes after a page
@@ -77,10 +82,10 @@ pub record Laying (d s whole : List ℕ) : Type 0 where
 pub deck_head : (deck : List ℕ) (size : ℕ) → deck_answer deck size ≡ Ok tt → 19 ≤ length deck
 deck_head deck size e = (accepted deck size e).0.whole
 
-pub laying_starts : (deck rest s : List ℕ) → deck_answer deck (length s) ≡ Ok tt → rest ≡ drop 19 deck → Laying rest s (paged (length deck) (drop 19 deck) s)
-laying_starts deck rest s e r =
+pub laying_starts : (deck s : List ℕ) → deck_answer deck (length s) ≡ Ok tt → Laying (drop 19 deck) s (paged (length deck) (drop 19 deck) s)
+laying_starts deck s e =
     let a = accepted deck (length s) e in
-    rw r (record { turns = length deck; next = 0; enough = simp length-drop (omega (arith, a.0.whole)); good = a.1; gives = refl })
+    record { turns = length deck; next = 0; enough = simp length-drop (omega (arith, a.0.whole)); good = a.1; gives = refl }
 
 module _ {d s whole : List ℕ} (l : Laying d s whole) where
   one_more : l.turns ≡ suc (pred l.turns)

@@ -55,17 +55,6 @@ fn first(d: &[u8], size: usize) -> Result<(), DeckFault>
 }
 
 impl<'a> Records<'a> {
-    // The records behind the machine's.
-    #[tactic(auto, using(std::proofs::lemmas::List::take_rest))]
-    fn behind_head(deck: &'a [u8]) -> Records<'a>
-        requires { 19 ≤ length deck.now }
-        ensures { result.rest.now ≡ drop 19 deck.now }
-    {
-        Records {
-            rest: &deck[HEAD..],
-        }
-    }
-
     // The page of the next record, or none at the end of the deck.
     #[tactic(auto, unfolding(manual::proofs::DeckRecords::later_record))]
     fn next_page(&mut self) -> Result<Option<Page<'a>>, DeckFault>
@@ -119,13 +108,11 @@ impl Page<'_> {
     }
 }
 
-// The records after the first.
+// The records after the first, in a deck of this many pages.
 #[tactic(auto, using(crate::proofs::Reading::reading_starts, crate::proofs::Reading::reading_page))]
-fn rest(deck: &[u8], pages: usize) -> Result<(), DeckFault>
-    requires { 19 ≤ length deck.now }
-    ensures { result ≡ later_answer (length deck.now) (drop 19 deck.now) pages 0 }
+fn rest(mut records: Records<'_>, pages: usize) -> Result<(), DeckFault>
+    ensures { result ≡ later_answer (19 + length records.entry.rest.now) records.entry.rest.now pages 0 }
 {
-    let mut records = Records::behind_head(deck);
     let mut next = 0;
     while let Some(page) = records.next_page()? {
         page.check(pages, next)?;
@@ -135,21 +122,28 @@ fn rest(deck: &[u8], pages: usize) -> Result<(), DeckFault>
 }
 
 /// Whether the deck is accepted for a storage of `size` bytes.
-#[tactic(auto, unfolding(manual::specs::Deck::deck_answer))]
+#[tactic(auto, unfolding(manual::specs::Deck::deck_answer), using(std::proofs::lemmas::List::take_rest, crate::proofs::Reading::deck_rest))]
 pub(crate) fn verdict(deck: &[u8], size: usize) -> Result<(), DeckFault>
     ensures { result ≡ deck_answer deck.now size }
 {
     first(deck, size)?;
-    rest(deck, size / PAGE)
+    rest(
+        Records {
+            rest: &deck[HEAD..],
+        },
+        size / PAGE,
+    )
 }
 
 /// Lays the pages of an accepted deck over the storage.
-#[tactic(auto, using(crate::proofs::Reading::deck_head, crate::proofs::Reading::laying_starts, crate::proofs::Reading::laying_page))]
+#[tactic(auto, using(crate::proofs::Reading::deck_head, crate::proofs::Reading::laying_page))]
 pub(crate) fn lay_pages(deck: &[u8], s: &mut [u8])
     requires { deck_answer deck.now (length s.old) ≡ Ok tt }
     ensures { s.new ≡ paged (length deck.now) (drop 19 deck.now) s.old }
 {
-    let mut records = Records::behind_head(deck);
+    let mut records = Records {
+        rest: &deck[HEAD..],
+    };
     // no record of an accepted deck is refused
     while let Ok(Some(page)) = records.next_page() {
         page.lay(s);
