@@ -5,7 +5,7 @@ use Prim.Native.Nat.{pred}
 use mathlib.Core.Logic.{⊎_elim}
 use Rattle.manual.specs.declared.DeckFault.{DeckFault}
 use Rattle.manual.specs.Numbers.{ReadAnswer}
-use Rattle.manual.specs.Deck.{page_answer, later_answer, deck_answer, over, paged}
+use Rattle.manual.specs.Deck.{first_answer, page_answer, later_answer, deck_answer, over, paged}
 use Rattle.manual.proofs.Pages.{length_over}
 use Rattle.manual.proofs.DeckRecords.{Asked, asked_good, EndAt, later_record, later_is, end_good, accepted, refused_read, later_cases, PageThen}
 use Rattle.deck.specs.declared.reader.Page.{Page}
@@ -39,10 +39,13 @@ pub record Reading (d : List ℕ) (pages next : ℕ) (whole : ReadAnswer) : Type
 pub reading_starts : (rest : List ℕ) (pages : ℕ) → Reading rest pages 0 (later_answer (19 + length rest) rest pages 0)
 reading_starts rest pages = record { turns = 19 + length rest; enough = omega arith; gives = refl }
 
--- the records after the first have as many turns as the deck has bytes
-pub deck_rest : (deck rest : List ℕ) (pages : ℕ) → 19 ≤ length deck → rest ≡ drop 19 deck
-    → later_answer (19 + length rest) rest pages 0 ≡ later_answer (length deck) (drop 19 deck) pages 0
-deck_rest deck rest pages h e = let n : 19 + length (drop 19 deck) ≡ length deck = simp length-drop (omega arith) in rw (e, n)
+-- a deck whose first record is not refused is what the records after it are
+pub deck_rest : (deck : List ℕ) (size : ℕ) → ((more : ReadAnswer) → first_answer deck size more ≡ more) → 19 ≤ length deck
+    → later_answer (19 + length (drop 19 deck)) (drop 19 deck) (size / 256) 0 ≡ deck_answer deck size
+unfolding deck_answer
+deck_rest deck size f h =
+    let n : 19 + length (drop 19 deck) ≡ length deck = simp length-drop (omega arith) in
+    rw n (sym (f _))
 
 module _ {d : List ℕ} {pages next : ℕ} {whole : ReadAnswer} (l : Reading d pages next whole) where
   -- the record at the front, and what comes after a page

@@ -122,7 +122,7 @@ fn rest(mut records: Records<'_>, pages: usize) -> Result<(), DeckFault>
 }
 
 /// Whether the deck is accepted for a storage of `size` bytes.
-#[tactic(auto, unfolding(manual::specs::Deck::deck_answer), using(std::proofs::lemmas::List::take_rest, crate::proofs::Reading::deck_rest))]
+#[tactic(auto, unfolding(manual::specs::Deck::deck_answer))]
 pub(crate) fn verdict(deck: &[u8], size: usize) -> Result<(), DeckFault>
     ensures { result ≡ deck_answer deck.now size }
 {
