@@ -56,6 +56,7 @@ impl TryFrom<u8> for Kind {
 pub(crate) fn all_zero(page: &[u8]) -> bool
     ensures { result ≡ all_zero page.now }
 {
+    // no way out early (`all` is many times slower), so that many bytes are taken at a time
     let mut clear = true;
     for b in page {
         clear &= *b == 0;

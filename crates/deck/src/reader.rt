@@ -1,5 +1,5 @@
 // The reader: a pass that checks the deck, and a pass that lays its pages.
-ghost use Rattle.std.specs.Prelude.{◌≡◌, ◌+◌, ◌*◌, ◌<◌, cond, not, ◌≤◌, eqb, length, get_or, drop, take, OnOk, IfOk, IfErr, IfSome, IfNone, List, Ok, Err, true, false, ℕ};
+ghost use Rattle.std.specs.Prelude.{◌≡◌, ◌+◌, ◌*◌, ◌<◌, ◌≤◌, length, get_or, drop, OnOk, IfOk, IfErr, IfSome, IfNone, List, Ok, Err, ℕ};
 ghost use Rattle.manual.specs.Numbers.{ReadAnswer};
 ghost use Rattle.manual.specs.Deck.{record_answer, first_answer, page_answer, later_answer, deck_answer, over, paged};
 ghost use Rattle.manual.proofs.DeckRecords.{Asked, later_record, EndAt};
@@ -127,12 +127,10 @@ pub(crate) fn verdict(deck: &[u8], size: usize) -> Result<(), DeckFault>
     ensures { result ≡ deck_answer deck.now size }
 {
     first(deck, size)?;
-    rest(
-        Records {
-            rest: &deck[HEAD..],
-        },
-        size / PAGE,
-    )
+    let records = Records {
+        rest: &deck[HEAD..],
+    };
+    rest(records, size / PAGE)
 }
 
 /// Lays the pages of an accepted deck over the storage.
