@@ -43,14 +43,15 @@ unfolding number_line
 refused_text p x n h e small = rw (h, ← e, eight_digits n (omega arith)) refl
 
 pub ran_text :
-    (p : Printed) (g : Ran) (n q r : ℕ) → p ≡ P.Ran g → (n ≡ (answer_told g.ended.answer 0).number) × (n < 10) → q ≡ (answer_told g.ended.answer 0).q → r ≡ (answer_told g.ended.answer 0).r
-    → Fmt.decimal n ++ (blank ∷ (registers_text g.machine ++ (blank ∷ (byte_text g.machine.status ++ (blank ∷ (Fmt.decimal g.ended.steps ++ (blank
+    (p : Printed) (g : Ran) (n k q r : ℕ) → p ≡ P.Ran g → (n ≡ (answer_told g.ended.answer 0).number) × (n < 10) → k ≡ g.ended.steps
+    → q ≡ (answer_told g.ended.answer 0).q → r ≡ (answer_told g.ended.answer 0).r
+    → Fmt.decimal n ++ (blank ∷ (registers_text g.machine ++ (blank ∷ (byte_text g.machine.status ++ (blank ∷ (Fmt.decimal k ++ (blank
     ∷ (byte_text q ++ (blank ∷ (byte_text r ++ (newline ∷ [])))))))))))
     ≡ shown p
-ran_text p g n q r h hn hq hr =
+ran_text p g n k q r h hn hk hq hr =
     let told_so : run_shown g.machine (record { number = n; q = q; r = r; steps = g.ended.steps }) ≡ run_shown g.machine (told g.ended) =
     ap (run_shown g.machine) (told_of g.ended.answer g.ended.steps hn.0 hq hr) in
-    rw (h, ← told_so, eight_digits n (omega arith)) (simp append_assoc)
+    rw (h, ← told_so, hk, eight_digits n (omega arith)) (simp append_assoc)
 
 -- two lines that `line` may give for a deck coincide
 pub shown_once : (p p' : Printed) (d : List ℕ) → p ≡ printed d → p' ≡ printed d → p ≡ p'
