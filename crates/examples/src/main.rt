@@ -38,7 +38,7 @@ fn at(bytes: &[u8], i: usize) -> u8 {
 }
 
 fn word_at(line: &[u8], i: usize) -> u16
-    requires { i < 53 }
+    requires { i < 16384 }
 {
     word_of([
         at(line, i),

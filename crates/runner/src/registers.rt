@@ -19,7 +19,7 @@ impl fmt::Display for HexByte {
     }
 }
 
-// Displayed as four digits. By its bytes: of `{:04X}` the standard library proves no text.
+// Displayed as four digits, by its bytes: the standard library has a lemma of what `{:02X}` writes, and none of `{:04X}`.
 #[derive(Clone, Copy)]
 pub(crate) struct HexWord(pub(crate) u16);
 
@@ -30,8 +30,9 @@ impl fmt::Display for HexWord {
     ghost output = { λ w. Some (word_text w.0) };
 
     fn fmt<W: fmt::Write>(&self, f: &mut fmt::Formatter<W>) -> fmt::Result {
-        let high = HexByte((self.0 / 256) as u8);
-        let low = HexByte((self.0 % 256) as u8);
+        let [high, low] = self.0.to_be_bytes();
+        let high = HexByte(high);
+        let low = HexByte(low);
         write!(f, "{high}{low}")
     }
 }
