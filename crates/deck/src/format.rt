@@ -1,4 +1,4 @@
-// Records: their kinds, the machine's record, and whether a page has one.
+//! Records: their kinds, the machine's record, and whether a page has one.
 ghost use Rattle.std.specs.Prelude.{◌≡◌, ◌≤◌, length, false, MatchResult};
 ghost use Rattle.manual.specs.declared.DeckFault.TheVariants.{KindUnknown};
 ghost use Rattle.deck.specs.Records.{kind_byte};

@@ -1,4 +1,4 @@
-// The reader: a pass that checks the deck, and a pass that lays its pages.
+//! The reader: a pass that checks the deck, and a pass that lays its pages.
 ghost use Rattle.std.specs.Prelude.{◌≡◌, ◌+◌, ◌*◌, ◌<◌, ◌≤◌, length, get_or, drop, OnOk, IfOk, IfErr, IfSome, IfNone, List, Ok, Err, ℕ};
 ghost use Rattle.manual.specs.Numbers.{ReadAnswer};
 ghost use Rattle.manual.specs.Deck.{record_answer, first_answer, page_answer, later_answer, deck_answer, over, paged};

@@ -1,4 +1,4 @@
-// The writer: the length of a deck, and the deck itself.
+//! The writer: the length of a deck, and the deck itself.
 ghost use Rattle.std.specs.Prelude.{true, ◌≡◌, ◌+◌, ◌/◌, ◌≤◌, length};
 ghost use Rattle.manual.specs.TheMachine.{size_allowed};
 ghost use Rattle.manual.specs.Deck.{deck_of, over, page_record, page_records};

@@ -1,4 +1,4 @@
-// The deck runner: reads a deck from standard input and prints its line. One byte more than a deck may have decides that it is too large.
+//! The deck runner: reads a deck from standard input and prints its line. One byte more than a deck may have decides that it is too large.
 #![tactic(auto)]
 
 ghost use Rattle.std.specs.Prelude.{◌≡◌, OnOk, IfSome};

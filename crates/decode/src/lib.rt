@@ -13,7 +13,8 @@ ghost use Rattle.decode.specs.Code.{code_named, code_opcode};
 
 use manual::{Base, Form, Group, Machine, Operation};
 
-/// What decoding gives, in the run's loop. An enum of its own, which the loop takes apart by `let .. else`, with its parts one by one and stops that hold
+/// What decoding gives, in the run's loop. An enum of its own, which the loop takes apart by `let .. else`, with its parts one by one and stops that
+/// hold
 /// nothing: a `Result` of a struct would be packed into memory and cost the loop half as much again.
 #[derive(Clone, Copy)]
 pub enum Fetched {
@@ -259,7 +260,8 @@ fn third(op: Operation, base: Base, m: &Machine, code: &[u8]) -> Fetched
     Fetched::Go(op, code[1], code[2], a1, 0, next)
 }
 
-// Of the operations of two addresses MVX alone refuses some Q bytes. The right digit is asked and not the operation, so that the loop keeps no call here.
+// Of the operations of two addresses MVX alone refuses some Q bytes. The right digit is asked and not the operation, so that the loop keeps no call
+// here.
 #[tactic(auto, unfolding(manual::specs::Formats::allowed), using(crate::proofs::Unlisted::others_allow))]
 fn pair_allows(right: u8, q: u8) -> bool
     ensures { result ≡ allows_named (get_or two_address right None) q }

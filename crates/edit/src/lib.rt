@@ -24,7 +24,8 @@ fn half_moved(q: u8, x: u8, y: u8) -> u8
     }
 }
 
-/// MVX: a half of operand 2's byte is put in a half of operand 1's; Q tells which. It stops, and changes nothing, where an operand lies outside storage.
+/// MVX: a half of operand 2's byte is put in a half of operand 1's; Q tells which. It stops, and changes nothing, where an operand lies outside
+/// storage.
 #[tactic(auto, unfolding(manual::specs::Edit::mvx, manual::specs::Programs::unless, manual::specs::Programs::and_then, manual::specs::Programs::val, manual::specs::Programs::fin, manual::specs::Step::did, manual::specs::Formats::reach))]
 pub fn mvx(m: &mut Machine, s: &mut [u8], f: Fields) -> Result<(), Stop>
     ensures { Does (mvx f) m.old s.old result m.new s.new }
@@ -65,7 +66,8 @@ fn source_reach(size: usize, n: usize, a: usize) -> Result<(), Stop>
     reach(size, n, a)
 }
 
-// Operand 2 as it was, the rightmost byte first: an overlap must not change a digit before it is taken. Taken by address: with no 20s operand 2 may lie outside storage, where no slice of it can be made.
+// Operand 2 as it was, the rightmost byte first: an overlap must not change a digit before it is taken. Taken by address: with no 20s operand 2 may
+// lie outside storage, where no slice of it can be made.
 #[tactic(auto, using(crate::proofs::Taking::copied_none, crate::proofs::Taking::copied_more))]
 fn take(s: &[u8], a: usize, d: &mut [u8])
     requires { (length d.old ≤ a + 1) × (0 < length d.old → a < length s.now) }
@@ -115,7 +117,8 @@ fn value_order(d: &[u8]) -> u8
     4
 }
 
-// Each 20 of the pattern, from the right, takes the next digit. A byte is written only after its turn, so the pattern is read where it lies. By address: over a slice the book's edit, a program over storage, would have to be stated again (no plainer).
+// Each 20 of the pattern, from the right, takes the next digit. A byte is written only after its turn, so the pattern is read where it lies. By
+// address: over a slice the book's edit, a program over storage, would have to be stated again (no plainer).
 #[tactic(auto, using(crate::proofs::Editing::start, crate::proofs::Taking::counts))]
 fn put_edited(s: &mut [u8], a: usize, n: usize, d: &[u8])
     requires { (a < length s.old) × (n ≤ a + 1) × (count20 (bytes_of s.old n a) ≤ length d.now) }
@@ -130,7 +133,9 @@ fn put_edited(s: &mut [u8], a: usize, n: usize, d: &[u8])
     }
 }
 
-/// ED: each 20 of the pattern, operand 1, takes the next digit of operand 2, both from the right; the status tells the order of operand 2's value. It stops, and changes nothing, where the pattern, or operand 2 of as many bytes as there are 20s, lies outside storage, and then where a digit is above 9.
+/// ED: each 20 of the pattern, operand 1, takes the next digit of operand 2, both from the right; the status tells the order of operand 2's value. It
+/// stops, and changes nothing, where the pattern, or operand 2 of as many bytes as there are 20s, lies outside storage, and then where a digit is
+/// above 9.
 #[tactic(auto, unfolding(manual::specs::Edit::ed, manual::specs::Programs::unless, manual::specs::Programs::val, manual::specs::Step::did, manual::specs::Formats::reach), using(crate::proofs::Rules::source_in))]
 pub fn ed(m: &mut Machine, s: &mut [u8], f: Fields) -> Result<(), Stop>
     ensures { Does (ed f) m.old s.old result m.new s.new }
@@ -182,7 +187,8 @@ fn scan_right(s: &mut [u8], a: usize, n: usize, v: u8) -> usize
     found
 }
 
-/// ITC: from operand 1's left on, bytes become operand 2's byte until one of F1 to F9 is met; ARR takes its address, or the end's. It stops, and changes nothing, where an operand lies outside storage.
+/// ITC: from operand 1's left on, bytes become operand 2's byte until one of F1 to F9 is met; ARR takes its address, or the end's. It stops, and
+/// changes nothing, where an operand lies outside storage.
 #[tactic(auto, unfolding(manual::specs::Edit::itc, manual::specs::Programs::unless, manual::specs::Programs::and_then, manual::specs::Programs::val, manual::specs::Step::did, manual::specs::Formats::reach, manual::specs::Formats::reach_right))]
 pub fn itc(m: &mut Machine, s: &mut [u8], f: Fields) -> Result<(), Stop>
     ensures { Does (itc f) m.old s.old result m.new s.new }

@@ -126,7 +126,8 @@ pub fn with_test_false(status: u8) -> u8
 
 // ---- the registers by their Q byte
 
-/// The register of an allowed Q byte other than 04 (the status). Each work register by a literal index: one at run time would keep the machine in memory.
+/// The register of an allowed Q byte other than 04 (the status). Each work register by a literal index: one at run time would keep the machine in
+/// memory.
 #[tactic(auto, unfolding(manual::specs::Registers::register_named))]
 pub fn register_of(m: &Machine, q: u8) -> u16
     ensures { result ≡ register_of m.now (register_named q) }

@@ -1,4 +1,4 @@
-// Bytes, words and registers as hexadecimal digits.
+//! Bytes, words and registers as hexadecimal digits.
 
 use manual::Machine;
 use std::fmt;

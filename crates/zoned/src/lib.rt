@@ -48,7 +48,8 @@ fn some_bad(part: &[u8]) -> bool
     bad
 }
 
-// The same of a field: its first 16 or 8 and as many last, since a constant count leaves no rest that goes one by one. The length, 31 at most, is a clause
+// The same of a field: its first 16 or 8 and as many last, since a constant count leaves no rest that goes one by one. The length, 31 at most, is a
+// clause
 // here and in two more: a slice has none in its type, and a struct round it would be no plainer.
 fn has_bad(field: &[u8]) -> bool
     requires { length field.now ≤ 31 }
@@ -107,7 +108,8 @@ fn put_zones(part: &mut [u8])
     }
 }
 
-// The same over a field, its last 16 or 8, where the columns start, and as many first: a byte that gets it twice is the same. A walk shared with `has_bad` would take a closure for each (no plainer).
+// The same over a field, its last 16 or 8, where the columns start, and as many first: a byte that gets it twice is the same. A walk shared with
+// `has_bad` would take a closure for each (no plainer).
 fn put_zone(field: &mut [u8])
     requires { length field.old ≤ 31 }
     ensures { Zones field.old field.new }
@@ -157,7 +159,8 @@ fn taken<const NINES: bool>(b: u8) -> usize
     if NINES { 9 - v } else { v }
 }
 
-// What a column carries on, its digits on top of the zone's 240: a comparison, since a division would make the next column wait. A number and not a bool, since it is added to the next column and, ten times, taken off this one (a bool is no plainer).
+// What a column carries on, its digits on top of the zone's 240: a comparison, since a division would make the next column wait. A number and not a
+// bool, since it is added to the next column and, ten times, taken off this one (a bool is no plainer).
 fn carried(t: usize) -> usize
     requires { t < 260 }
     ensures { result ≡ (t - 240) / 10 }
@@ -175,7 +178,8 @@ fn still<const NINES: bool>() -> usize
     if NINES { 1 } else { 0 }
 }
 
-// Adds the digits of a field of the same length, column by column from the right. The zones are F, so that a column is 240 and its digits. `start`, 0 or 1,
+// Adds the digits of a field of the same length, column by column from the right. The zones are F, so that a column is 240 and its digits. `start`, 0
+// or 1,
 // is a clause here and in two more: a type for it would be taken apart in each (no plainer).
 fn columns<const NINES: bool>(field: &mut [u8], second: &[u8], start: usize) -> usize
     requires operands { Operands field.old second.now }
@@ -278,7 +282,8 @@ fn sum(field: &mut [u8], second: &[u8], minus: bool, status: u8) -> u8
     finish(field, minus, over == 1, status)
 }
 
-// Of two signs the smaller size is taken off the larger, whose sign stays. Not one with `sum`, where a carry is the overflow (no plainer): here without a carry operand 2's is the larger, and the columns hold ten to the field's length less the result.
+// Of two signs the smaller size is taken off the larger, whose sign stays. Not one with `sum`, where a carry is the overflow (no plainer): here
+// without a carry operand 2's is the larger, and the columns hold ten to the field's length less the result.
 fn difference(field: &mut [u8], second: &[u8], minus: bool, status: u8) -> u8
     requires { Operands field.old second.now }
     ensures { LeftIn field.old status (signed_sum minus (not minus) field.old second.now) result field.new }
@@ -355,7 +360,8 @@ fn combine_second<const LESS: bool>(s: &mut [u8], f: Fields, status: u8) -> u8
 
 // ---- the leaves
 
-/// ZAZ: operand 2's value is put in operand 1. It stops, and changes nothing, where an operand lies outside storage, and then where operand 2 has a digit above 9.
+/// ZAZ: operand 2's value is put in operand 1. It stops, and changes nothing, where an operand lies outside storage, and then where operand 2 has a
+/// digit above 9.
 pub fn zaz(m: &mut Machine, s: &mut [u8], f: Fields) -> Result<(), Stop>
     ensures { Does (zaz f) m.old s.old result m.new s.new }
 {
@@ -365,7 +371,8 @@ pub fn zaz(m: &mut Machine, s: &mut [u8], f: Fields) -> Result<(), Stop>
     Ok(())
 }
 
-/// AZ, and where LESS SZ: operand 2's value is added to operand 1, or taken off it. It stops, and changes nothing, where an operand lies outside storage, and then where operand 2 or operand 1 has a digit above 9.
+/// AZ, and where LESS SZ: operand 2's value is added to operand 1, or taken off it. It stops, and changes nothing, where an operand lies outside
+/// storage, and then where operand 2 or operand 1 has a digit above 9.
 pub fn combine<const LESS: bool>(m: &mut Machine, s: &mut [u8], f: Fields) -> Result<(), Stop>
     ensures { Does (cond LESS sz az f) m.old s.old result m.new s.new }
 {
