@@ -1,5 +1,5 @@
 -- Bytes put over others, zeros, and the pages of a storage with their records. What carries it: lists are cut where one of their parts ends.
-use Rattle.std.proofs.Common.{ℕ, zero, suc, ◌+◌, ◌≤◌, ◌<◌, ◌-◌, ◌*◌, true, false, List, [], ◌∷◌, ◌++◌, append_assoc, append-nil, ◌≡◌, refl, ap, sym, ◌∙◌, add-zero, zero-add, add_assoc, add-one, arith, eqb-true, eqb, length, set, take, drop, length-append, length-drop, take-append-drop, replicate, length-take-le, take_at, drop-drop, drop_at}
+use Rattle.std.proofs.Common.{ℕ, zero, suc, ◌+◌, ◌≤◌, ◌<◌, ◌*◌, true, false, List, [], ◌∷◌, ◌++◌, append_assoc, append-nil, ◌≡◌, refl, ap, sym, ◌∙◌, add-zero, zero-add, add_assoc, add-one, arith, eqb-true, eqb, length, set, take, drop, length-append, length-drop, take-append-drop, replicate, length-take-le, take_at, drop-drop, drop_at}
 use Rattle.std.proofs.lemmas.Bool.{and_parts}
 use Rattle.std.proofs.lemmas.List.{length-replicate, replicate-append-replicate, set_split, nil_from_length}
 use Rattle.std.proofs.Math.Seq.{take-length, drop-append-add, paste}
@@ -141,27 +141,3 @@ skip_zeros (suc j) k n s =
 pub only_zeros : (n k : ℕ) → page_records n k (zeros (n * 256)) ≡ []
 unfolding page_records
 only_zeros n k = simp (add-zero, append-nil) at (skip_zeros n k 0 [])
-
--- the records of the pages from the one numbered k on, where there are `count`
-abbrev pub pages_from : List ℕ → ℕ → ℕ → List ℕ
-pages_from s count k = page_records (count - k) k (drop (k * 256) s)
-
--- page k
-abbrev pub page_at : List ℕ → ℕ → List ℕ
-page_at s k = take 256 (drop (k * 256) s)
-
-module _ (s : List ℕ) (count k : ℕ) where
-  pub pages_more : k < count → pages_from s count k ≡ page_record k (page_at s k) ++ pages_from s count (k + 1)
-  unfolding page_records
-  pages_more h =
-      let z : count - k ≡ suc (count - (k + 1)) = omega arith in
-      let e : k * 256 + 256 ≡ (k + 1) * 256 = omega arith in
-      rw (z, drop-drop, e)
-
-  pub pages_done : count ≤ k → pages_from s count k ≡ []
-  unfolding page_records
-  pages_done h = let z : count - k ≡ 0 = omega arith in rw z
-
--- a page within the storage is whole
-pub page_whole : (s : List ℕ) (k : ℕ) → k * 256 + 256 ≤ length s → length (page_at s k) ≡ 256
-page_whole s k h = length-take-le 256 (drop (k * 256) s) (simp length-drop (omega arith))

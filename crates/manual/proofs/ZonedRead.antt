@@ -1,7 +1,7 @@
 -- The field that AZ, SZ and ZAZ leave, read back, is the exact signed result cut to it. What carries it: the digits written from the right are those of the cut size.
 use Rattle.std.proofs.Common.{Ok, ◌≡◌, refl, sym, ◌∙◌, ap, Bool, true, false, cond, not, ◌&&◌, ◌||◌, List, ◌↔◌, ◌≢◌, ℕ, zero, suc, ◌+◌, ◌-◌, ◌*◌, ◌/◌, ◌%◌, ◌^◌, ◌≤◌, ◌<◌, arith, mod-eq_of_lt, length, get_or, set, length-set, get_or-set_same, get_or-set_other, eqb, leb, ℤ, pos, negsuc, nat_abs, ◌+ℤ◌, ◌-ℤ◌, leb-false, le-leb}
 use Rattle.std.proofs.lemmas.Bool.Decides.{nat_tests}
-use Rattle.std.proofs.Math.Nat.{zero-mod, mod-mod, sub-zero}
+use Rattle.std.proofs.Math.Nat.{mod-mod, sub-zero}
 use Rattle.std.proofs.Math.Dec.{eqb-suc-zero}
 use Rattle.manual.specs.declared.Machine.{Machine}
 use Rattle.manual.specs.declared.Fields.{Fields}
@@ -12,7 +12,7 @@ use Rattle.manual.specs.Programs.{fin, clear, and_then}
 use Rattle.manual.specs.TheMachine.{decimal_overflow, equal, low, high, is_on, set_order, turn_on}
 use Rattle.manual.specs.Values.{bytes_of, digit, zone, size, minus, signed, value, all_digits, digits_of, negative, cut, overflows, left_minus, cut_to, sign_order}
 use Rattle.manual.specs.Zoned.{l1, l2, zoned_reach, put_digits, put_zoned, zoned_status, put_result, zaz, combine, az, sz}
-use Rattle.manual.specs.Step.{Outcome, ended, moved, given, did, Gives}
+use Rattle.manual.specs.Step.{Outcome, ended, moved, given, did}
 use Rattle.manual.proofs.Running.{from, did_from, from_bind, from_go, val_leftward, fin_leftward, unless_clear, both_clear, reach_clear}
 use Rattle.manual.proofs.Status.{sign_small, order_set}
 use Rattle.manual.proofs.FieldBytes.{Outside, written, outside_apart, written_length, written_outside, written_inside, written_same, written-first, written_once}
@@ -80,13 +80,6 @@ fin_put_zoned (suc n) a sign m mach s =
     fin_put_digits n (a - 1) (m / 10) mach (set s a (cond sign 0xD0 0xF0 + m % 10)) ∙
     ap (λ (t : List ℕ). state mach t)
     (then_digits s n a m (cond sign 0xD0 0xF0 + m % 10) (zoned_byte sign m) (byte_units sign m) (λ j. byte_rest sign m j ∙ ap (λ (d : ℕ). 0xF0 + d) (digit_next m j)))
-
--- the same as contracts of a loop
-pub gives_put_digits : (n a m : ℕ) (s : List ℕ) → Gives (put_digits n a m) s tt (written s n a (λ j. 0xF0 + digit_at m j))
-gives_put_digits n a m s = λ mach. (refl, fin_put_digits n a m mach s)
-
-pub gives_put_zoned : (n a : ℕ) (sign : Bool) (m : ℕ) (s : List ℕ) → Gives (put_zoned n a sign m) s tt (zoned_bytes s n a sign m)
-gives_put_zoned n a sign m s = λ mach. (refl, fin_put_zoned n a sign m mach s)
 
 -- ---- a zoned byte taken apart
 
@@ -235,10 +228,6 @@ abs_value bs = abs_signed (minus bs) (size bs)
 pub cut_signed : (n : ℕ) (x : ℤ) → signed (left_minus n x) (cut n x) ≡ cut_to n x
 unfolding left_minus
 cut_signed n x = signed_gone (negative x) (cut n x)
-
-pub cut_none : (n : ℕ) → cut n (pos 0) ≡ 0
-unfolding cut
-cut_none n = zero-mod (10 ^ n)
 
 pub cut_cut : (n : ℕ) (x : ℤ) → cut n x % 10 ^ n ≡ cut n x
 unfolding cut
