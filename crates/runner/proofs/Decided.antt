@@ -91,7 +91,8 @@ large_by_length : (d : List ℕ) → 16532 < length d → too_large d ≡ true
 unfolding too_large
 large_by_length d h = rw (lt-ltb _ _ h)
 
+pub both_long : (d e : List ℕ) → 16532 < length d → 16532 < length e → line_of d ≡ line_of e
+both_long d e h k = large_line d (large_by_length d h) ∙ sym (large_line e (large_by_length e k))
+
 pub only_the_front : (d : List ℕ) → 16532 < length d → line_of d ≡ line_of (take 16533 d)
-only_the_front d h =
-    large_line d (large_by_length d h)
-    ∙ sym (large_line (take 16533 d) (large_by_length (take 16533 d) (rw (length-take-le 16533 d (omega arith)) (omega arith))))
+only_the_front d h = both_long d (take 16533 d) h (rw (length-take-le 16533 d (omega arith)) (omega arith))
