@@ -92,7 +92,7 @@ fn word(v: u16) -> [u8; 2]
     v.to_be_bytes()
 }
 
-/// The record of a machine with this many pages, 1 to 256.
+/// The record of a machine with this many pages, 1 to 256. Written out: joined from nine arrays by copies into a buffer it is no plainer.
 #[tactic(auto, unfolding(manual::specs::Deck::machine_record))]
 pub(crate) fn machine_record(pages: usize, m: Machine) -> [u8; HEAD]
     requires pages_bound { pages ≤ 256 }
