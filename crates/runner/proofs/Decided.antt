@@ -20,7 +20,7 @@ use Rattle.manual.specs.Runner.{number_line, too_large, lent_size, budget, read_
 use Rattle.manual.proofs.Runs.{run_within}
 use Rattle.runner.specs.declared.Printed.{Printed}
 use Rattle.runner.specs.declared.Printed.TheVariants as P
-use Rattle.runner.specs.Text.{shown, outcome, printed}
+use Rattle.runner.specs.Text.{shown, outcome, printed_of}
 use Rattle.runner.proofs.Lines.{shown_run, steps_told}
 
 -- two storages of the same size give the same
@@ -30,8 +30,8 @@ same_outcome :
 same_outcome (Ok tt) d s t e = ap (λ (n : ℕ). P.Ran (run_of (machine_in d) (storage_in d n) budget).gave) e
 same_outcome (Err x) d s t e = refl
 
-printed_as : (d s : List ℕ) → too_large d ≡ false → length s ≡ lent_size d → printed d ≡ outcome (read_of d s).gave.answer (read_of d s)
-unfolding printed read_of
+printed_as : (d s : List ℕ) → too_large d ≡ false → length s ≡ lent_size d → printed_of d ≡ outcome (read_of d s).gave.answer (read_of d s)
+unfolding printed_of read_of
 printed_as d s e h =
     let z : List ℕ = replicate (lent_size d) 0 in
     let h' : length z ≡ length s = length-replicate (lent_size d) 0 ∙ sym h in
@@ -41,16 +41,16 @@ printed_as d s e h =
 -- reading gave r and left t
 pub refused :
     (d s : List ℕ) (r : DeckOut) (t : List ℕ) (x : DeckFault) → too_large d ≡ false → length s ≡ lent_size d → read_outcome r t ≡ read_of d s
-    → r.answer ≡ Err x → P.Refused x ≡ printed d
+    → r.answer ≡ Err x → P.Refused x ≡ printed_of d
 refused d s r t x e h p a = rw (printed_as d s e h, ← p, a) refl
 
 pub ran :
     (d s : List ℕ) (r : DeckOut) (t : List ℕ) (g : Ran) (u : List ℕ) → too_large d ≡ false → length s ≡ lent_size d → read_outcome r t ≡ read_of d s
-    → r.answer ≡ Ok tt → ran_outcome g u ≡ run_of r.machine t budget → P.Ran g ≡ printed d
+    → r.answer ≡ Ok tt → ran_outcome g u ≡ run_of r.machine t budget → P.Ran g ≡ printed_of d
 ran d s r t g u e h p a q = rw (printed_as d s e h, ← p, a, ← q) refl
 
-pub large : (d : List ℕ) → too_large d ≡ true → P.TooLarge ≡ printed d
-unfolding printed
+pub large : (d : List ℕ) → too_large d ≡ true → P.TooLarge ≡ printed_of d
+unfolding printed_of
 large d e = rw e refl
 
 -- ---- what is printed shows the book's line
@@ -63,12 +63,12 @@ outcome_line : (a : ReadAnswer) (o : ReadOutcome) → shown (outcome a o) ≡ re
 outcome_line (Ok tt) o = let g : RanOutcome = run_of o.gave.machine o.storage budget in shown_run g.gave.machine (told g.gave.ended) (few_steps o.gave.machine o.storage)
 outcome_line (Err x) o = refl
 
-decided : (d : List ℕ) (b : Bool) → too_large d ≡ b → shown (printed d) ≡ line_of d
-unfolding printed line_of
+decided : (d : List ℕ) (b : Bool) → too_large d ≡ b → shown (printed_of d) ≡ line_of d
+unfolding printed_of line_of
 decided d true e = rw e refl
 decided d false e = rw e (let o : ReadOutcome = read_of d (replicate (lent_size d) 0) in outcome_line o.gave.answer o)
 
-pub shown_line : (p : Printed) (d : List ℕ) → p ≡ printed d → Some (shown p) ≡ Some (line_of d)
+pub shown_line : (p : Printed) (d : List ℕ) → p ≡ printed_of d → Some (shown p) ≡ Some (line_of d)
 shown_line p d h = rw h (ap Some (decided d (too_large d) refl))
 
 -- ---- what decides a line

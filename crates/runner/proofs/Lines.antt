@@ -12,7 +12,7 @@ use Rattle.told.proofs.Telling.{told_of}
 use Rattle.runner.specs.declared.Printed.{Printed}
 use Rattle.runner.specs.declared.Printed.TheVariants.{TooLarge, Refused}
 use Rattle.runner.specs.declared.Printed.TheVariants as P
-use Rattle.runner.specs.Text.{run_shown, shown, printed}
+use Rattle.runner.specs.Text.{run_shown, shown, printed_of}
 
 -- the book's decimal, whose digits are counted, is the one that `{}` writes
 last_digits : AppendsLastDigit decimal
@@ -54,5 +54,5 @@ ran_text p g n k q r h hn hk hq hr =
     rw (h, ← told_so, hk, eight_digits n (omega arith)) (simp append_assoc)
 
 -- two lines that `line` may give for a deck coincide
-pub shown_once : (p p' : Printed) (d : List ℕ) → p ≡ printed d → p' ≡ printed d → p ≡ p'
+pub shown_once : (p p' : Printed) (d : List ℕ) → p ≡ printed_of d → p' ≡ printed_of d → p ≡ p'
 shown_once p p' d h h' = h ∙ sym h'

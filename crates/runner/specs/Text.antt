@@ -26,7 +26,7 @@ outcome (Ok tt) o = Ran (run_of o.gave.machine o.storage budget).gave
 outcome (Err x) o = Refused x
 
 -- what becomes of a deck: 18 before other refusals, else it is read and run
-unfoldable pub printed : List ℕ → Printed
-printed d =
+unfoldable pub printed_of : List ℕ → Printed
+printed_of d =
     let o : ReadOutcome = read_of d (replicate (lent_size d) 0) in
     cond (too_large d) TooLarge (outcome o.gave.answer o)

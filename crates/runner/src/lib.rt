@@ -5,7 +5,7 @@ mod registers;
 
 ghost use Rattle.std.specs.Prelude.{◌≡◌, false, ◌≤◌, length, get_or, Some};
 ghost use Rattle.manual.specs.Runner.{too_large, lent_size, line_of};
-ghost use Rattle.runner.specs.Text.{printed};
+ghost use Rattle.runner.specs.Text.{printed_of};
 
 use manual::{DeckFault, Ran};
 use registers::HexByte;
@@ -66,7 +66,7 @@ fn too_large(deck: &[u8]) -> bool
 // What becomes of a deck that isn't too large, read into the storage `s`, whatever that holds.
 fn answered(deck: &[u8], s: &mut [u8]) -> Printed
     requires { (too_large deck.now ≡ false) × (length s.old ≡ lent_size deck.now) }
-    ensures { result ≡ printed deck.now }
+    ensures { result ≡ printed_of deck.now }
 {
     let read = deck::read(deck, s);
     match read.answer {
@@ -78,7 +78,7 @@ fn answered(deck: &[u8], s: &mut [u8]) -> Printed
 /// What the deck runner prints of a deck: a deck that isn't too large is read and, where that isn't refused, run.
 #[tactic(auto, using(crate::proofs::Decided::fits, crate::proofs::Decided::large, crate::proofs::Decided::large_line, crate::proofs::Decided::shown_line))]
 pub fn line(deck: &[u8]) -> Printed
-    ensures value { result ≡ printed deck.now }
+    ensures value { result ≡ printed_of deck.now }
     ensures text { ⟦<Printed as fmt::Display>⟧.output result ≡ Some (line_of deck.now) }
 {
     if too_large(deck) {
