@@ -30,8 +30,8 @@ fn half_moved(q: u8, x: u8, y: u8) -> u8
 pub fn mvx(m: &mut Machine, s: &mut [u8], f: Fields) -> Result<(), Stop>
     ensures { Does (mvx f) m.old s.old result m.new s.new }
 {
-    let a = f.a1 as usize;
-    let b = f.a2 as usize;
+    let a = usize::from(f.a1);
+    let b = usize::from(f.a2);
     reach(s.len(), 1, a)?;
     reach(s.len(), 1, b)?;
     s[a] = half_moved(f.q, s[a], s[b]);
@@ -140,6 +140,7 @@ fn put_edited(s: &mut [u8], a: usize, n: usize, d: &[u8])
 pub fn ed(m: &mut Machine, s: &mut [u8], f: Fields) -> Result<(), Stop>
     ensures { Does (ed f) m.old s.old result m.new s.new }
 {
+    // here and in ITC by `as`: with `usize::from` the proof of the leaf doesn't close
     let n = f.q as usize + 1;
     let a = f.a1 as usize;
     let b = f.a2 as usize;

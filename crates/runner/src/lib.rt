@@ -85,6 +85,6 @@ pub fn line(deck: &[u8]) -> Printed
         return Printed::TooLarge;
     }
     let mut storage = [0u8; 16384];
-    let size = (second(deck) as usize + 1) * 256;
+    let size = (usize::from(second(deck)) + 1) * 256;
     answered(deck, &mut storage[0..size])
 }

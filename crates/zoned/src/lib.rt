@@ -17,13 +17,13 @@ use parts::reach;
 fn l2(q: u8) -> usize
     ensures { result ≡ l2 q }
 {
-    (q % 16) as usize + 1
+    usize::from(q % 16) + 1
 }
 
 fn l1(q: u8) -> usize
     ensures { result ≡ l1 q }
 {
-    (q / 16) as usize + l2(q)
+    usize::from(q / 16) + l2(q)
 }
 
 // The n bytes of storage whose rightmost is at a.
@@ -82,7 +82,7 @@ fn digits_of(field: &[u8]) -> Result<(), Stop>
 fn zaz_way(s: &[u8], f: Fields) -> Result<(), Stop>
     ensures { result ≡ zaz_way s.now f.q f.a1 f.a2 }
 {
-    let (a1, a2) = (f.a1 as usize, f.a2 as usize);
+    let (a1, a2) = (usize::from(f.a1), usize::from(f.a2));
     reach(s.len(), l1(f.q), a1)?;
     reach(s.len(), l2(f.q), a2)?;
     digits_of(field(s, l2(f.q), a2))
@@ -94,7 +94,7 @@ fn combine_way(s: &[u8], f: Fields) -> Result<(), Stop>
     ensures { result ≡ combine_way s.now f.q f.a1 f.a2 }
 {
     zaz_way(s, f)?;
-    digits_of(field(s, l1(f.q), f.a1 as usize))
+    digits_of(field(s, l1(f.q), usize::from(f.a1)))
 }
 
 // ---- digits
@@ -155,7 +155,7 @@ fn taken<const NINES: bool>(b: u8) -> usize
     requires { digit b ≤ 9 }
     ensures { (result ≡ taken NINES (digit b)) × (result ≤ 9) }
 {
-    let v = (b % 16) as usize;
+    let v = usize::from(b % 16);
     if NINES { 9 - v } else { v }
 }
 
@@ -190,7 +190,7 @@ fn columns<const NINES: bool>(field: &mut [u8], second: &[u8], start: usize) -> 
 {
     let mut over = start;
     for j in (0..field.len()).rev() {
-        let t = field[j] as usize + taken::<NINES>(second[j]) + over;
+        let t = usize::from(field[j]) + taken::<NINES>(second[j]) + over;
         over = carried(t);
         field[j] = (t - 10 * over) as u8;
     }
@@ -209,7 +209,7 @@ fn run_on<const NINES: bool>(field: &mut [u8], start: usize) -> usize
         if over == still::<NINES>() {
             return over;
         }
-        let t = field[j] as usize + taken::<NINES>(0) + over;
+        let t = usize::from(field[j]) + taken::<NINES>(0) + over;
         over = carried(t);
         field[j] = (t - 10 * over) as u8;
     }
@@ -341,8 +341,8 @@ fn put_second(s: &mut [u8], f: Fields, status: u8) -> u8
     ensures { Left s.old (l1 f.q) f.a1 status (value (bytes_of s.old (l2 f.q) f.a2)) result s.new }
 {
     let (n, k) = (l1(f.q), l2(f.q));
-    let a = f.a1 as usize;
-    let copy = copied(field(s, k, f.a2 as usize));
+    let a = usize::from(f.a1);
+    let copy = copied(field(s, k, usize::from(f.a2)));
     put_value(&mut s[a + 1 - n..a + 1], &copy[..k], status)
 }
 
@@ -352,6 +352,7 @@ fn combine_second<const LESS: bool>(s: &mut [u8], f: Fields, status: u8) -> u8
     requires a1_value { all_digits (bytes_of s.old (l1 f.q) f.a1) ≡ true }
     ensures { Left s.old (l1 f.q) f.a1 status (cond LESS ◌-ℤ◌ ◌+ℤ◌ (value (bytes_of s.old (l1 f.q) f.a1)) (value (bytes_of s.old (l2 f.q) f.a2))) result s.new }
 {
+    // by `as`: with `usize::from` the proof doesn't close
     let (n, k) = (l1(f.q), l2(f.q));
     let a = f.a1 as usize;
     let copy = copied(field(s, k, f.a2 as usize));
