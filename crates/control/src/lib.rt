@@ -11,7 +11,7 @@ use manual::{Columns, Fields, Machine, Stop};
 
 // ---- a register and two bytes
 
-// The two bytes whose rightmost is at a.
+// The two bytes whose rightmost is at a: a function, since an address is that of the right one.
 fn word(s: &[u8], a: usize) -> u16
     requires { (a < length s.now) × (1 ≤ a) }
     ensures { result ≡ get_or s.now (a - 1) 0 * 256 + get_or s.now a 0 }

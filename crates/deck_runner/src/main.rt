@@ -20,6 +20,7 @@ fn run<R: Read, W: Write>(input: &mut R, output: &mut W) -> io::Result<()>
     ensures { OnOk result (IfSome (R.remaining input.old)
         (λ bytes. Appends (W.contents output.old) (W.contents output.new) (line_of bytes))) }
 {
+    // an array and not a Vec: the programs take nothing from the heap
     let mut deck = [0u8; 16533];
     let n = input::fill(input, &mut deck)?;
     answer(&deck[..n], output)

@@ -38,6 +38,7 @@ fn decks<R: Read, W: Write>(input: &mut R, output: &mut W, buffer: &mut [u8]) ->
         let Some(deck) = next_deck(input, buffer)? else {
             break;
         };
+        // as the deck runner does: two programs, two lines each
         let line = runner::line(deck);
         write!(output, "{line}")?;
     }
@@ -45,6 +46,7 @@ fn decks<R: Read, W: Write>(input: &mut R, output: &mut W, buffer: &mut [u8]) ->
 }
 
 fn main(rt: HostRuntime) -> io::Result<()> {
+    // an array and not a Vec: the programs take nothing from the heap
     let mut buffer = [0u8; 17000];
     decks(&mut rt.reader(), &mut io::writer(&rt), &mut buffer)
 }

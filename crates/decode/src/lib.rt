@@ -290,7 +290,7 @@ fn double(right: u8, op: Operation, form: Form, m: &Machine, code: &[u8]) -> Fet
     Fetched::Go(op, q, code[2], a1, a2, next)
 }
 
-// The operations of two addresses, by the right digit.
+// The operations of two addresses, by the right digit. A match and no table of constants, which would be built anew at each turn.
 fn pair_named(right: u8) -> Option<Operation>
     ensures { result ≡ get_or two_address right None }
 {
@@ -326,7 +326,7 @@ fn pair(opcode: u8, m: &Machine, code: &[u8]) -> Fetched
     }
 }
 
-// The instruction at the front of the code, whose opcode is given.
+// The instruction at the front of the code. A match, so that each arm's form is a constant.
 #[tactic(auto, unfolding(manual::specs::Formats::form_of, manual::specs::Formats::named_of, manual::specs::Formats::first_base, manual::specs::Formats::allowed), using(crate::proofs::Unlisted::others))]
 fn decode_code(m: &Machine, code: &[u8]) -> Fetched
     requires { 0 < length code.now }

@@ -12,7 +12,7 @@ use std::io::{self, Write};
 
 // ---- reading
 
-// What a hexadecimal digit stands for; 0 for any other byte.
+// What a hexadecimal digit stands for; 0 for any other byte, which the library's own readers of digits refuse.
 fn value_of(digit: u8) -> u8
     ensures { result < 16 }
 {
@@ -145,6 +145,7 @@ fn print_stretches<W: Write>(output: &mut W, line: &[u8], s: &[u8]) -> io::Resul
 // ---- the examples
 
 fn example<W: Write>(output: &mut W, line: &[u8]) -> io::Result<()> {
+    // an array, as in `main`
     let mut s = [0u8; 16384];
     lay(line, &mut s);
     let stepped = processor::step(machine_of(line), &mut s);
@@ -165,6 +166,7 @@ fn examples<W: Write>(output: &mut W, text: &[u8]) -> io::Result<()> {
 }
 
 fn main(rt: HostRuntime) -> io::Result<()> {
+    // an array and not a Vec: the programs take nothing from the heap
     let mut text = [0u8; 16384];
     let n = input::fill(&mut rt.reader(), &mut text)?;
     examples(&mut io::writer(&rt), &text[..n])

@@ -196,7 +196,7 @@ pub enum DeckFault {
     BytesAfterEnd = 16,
 }
 
-/// What the reader leaves: a refusal leaves a zeroed machine.
+/// What the reader leaves. The machine stands beside the answer and not in it: a refusal leaves a zeroed one, which the reader promises.
 #[derive(Clone, Copy, Debug, PartialEq, Eq)]
 pub struct DeckOut {
     pub machine: Machine,

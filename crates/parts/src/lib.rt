@@ -24,7 +24,7 @@ pub fn reach(size: usize, n: usize, a: usize) -> Result<(), Stop>
     }
 }
 
-/// `n` bytes whose leftmost is at `a`; 7 where one lies past the storage of `size` bytes.
+/// `n` bytes whose leftmost is at `a`; 7 where one lies past the storage of `size` bytes. Not one with `reach`: it would ask which side is meant.
 #[tactic(auto, unfolding(manual::specs::Formats::reach_right))]
 pub fn reach_right(size: usize, n: usize, a: usize) -> Result<(), Stop>
     ensures { result ≡ reach_right size n a }
@@ -57,7 +57,7 @@ pub fn set_order(order: u8, status: u8) -> u8
     status / 8 * 8 + order
 }
 
-/// Equal (1), low (2) or high (4): `x` against `y`, unsigned. By two tests, since a `cmp` matched on costs the loop a branch more.
+/// Equal (1), low (2) or high (4), as the status has them: `x` against `y`, unsigned. By two tests, since a `cmp` matched on costs the loop a branch more.
 #[tactic(auto, unfolding(manual::specs::TheMachine::order_of))]
 pub fn order_of(x: u8, y: u8) -> u8
     ensures order { result ≡ order_of x y }

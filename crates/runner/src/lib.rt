@@ -84,6 +84,7 @@ pub fn line(deck: &[u8]) -> Printed
     if too_large(deck) {
         return Printed::TooLarge;
     }
+    // an array and not a Vec: the library and the programs take nothing from the heap
     let mut storage = [0u8; 16384];
     let size = (usize::from(second(deck)) + 1) * 256;
     answered(deck, &mut storage[0..size])
