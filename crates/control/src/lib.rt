@@ -8,6 +8,7 @@ ghost use Rattle.manual.specs.TheMachine.{turn_off, decimal_overflow, test_false
 ghost use Rattle.parts.specs.Leaf.{Does};
 
 use manual::{Columns, Fields, Machine, Stop};
+use std::cmp::Ordering;
 
 // ---- a register and two bytes
 
@@ -44,13 +45,13 @@ fn loaded_status(b: u8) -> u8
     ensures { result ≡ loaded_status b }
 {
     let order = if b % 2 == 1 {
-        1
+        Ordering::Equal
     } else if b / 2 % 2 == 1 {
-        2
+        Ordering::Less
     } else {
-        4
+        Ordering::Greater
     };
-    b % 64 / 8 * 8 + order
+    parts::set_order(order, b % 64)
 }
 
 /// L: the register that Q names comes from storage.
@@ -69,9 +70,8 @@ pub fn load(m: &mut Machine, s: &[u8], f: Fields) -> Result<(), Stop>
     Ok(())
 }
 
-/// A: the bytes are added to the register in 16 bits, the carry told apart; the status as after ALC. Where `LESS` S: they are taken off, the borrow
-/// told
-/// apart; the status as after SLC.
+/// A: the bytes are added to the register in 16 bits, the carry told apart; the status as after ALC. Where
+/// `LESS` S: they are taken off, the borrow told apart; the status as after SLC.
 #[tactic(auto, unfolding(manual::specs::Registers::add, manual::specs::Registers::subtract, manual::specs::Programs::unless, manual::specs::Programs::val, manual::specs::Programs::fin, manual::specs::Step::did, manual::specs::Formats::reach))]
 pub fn combine<const LESS: bool>(m: &mut Machine, s: &[u8], f: Fields) -> Result<(), Stop>
     ensures { Does (cond LESS subtract add f) m.old s.now result m.new s.now }

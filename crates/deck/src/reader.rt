@@ -142,7 +142,7 @@ pub(crate) fn lay_pages(deck: &[u8], s: &mut [u8])
     let mut records = Records {
         rest: &deck[HEAD..],
     };
-    // no record of an accepted deck is refused
+    // no record of an accepted deck is refused; made here as in `verdict`, since a function for one field is no plainer
     while let Ok(Some(page)) = records.next_page() {
         page.lay(s);
     }

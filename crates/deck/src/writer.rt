@@ -30,7 +30,8 @@ pub(crate) fn deck_length(s: &[u8]) -> usize
     total
 }
 
-// Writes a page's record, if it has one, at the place `at`, and returns the place after it.
+// Writes a page's record, if it has one, at the place `at`, and returns the place after it. By a place: what is written is
+// promised of the whole output, and a slice of what is left would have to be put back into it (no plainer).
 #[tactic(auto, using(manual::proofs::Pages::over_none, manual::proofs::Pages::over_two, crate::proofs::Writing::put_over, crate::proofs::Writing::record_room))]
 fn write_page(number: u8, bytes: &[u8], out: &mut [u8], at: usize) -> usize
     requires { at + length (page_record number bytes.now) ≤ length out.old }

@@ -38,7 +38,7 @@ fn decks<R: Read, W: Write>(input: &mut R, output: &mut W, buffer: &mut [u8]) ->
         let Some(deck) = next_deck(input, buffer)? else {
             break;
         };
-        // as the deck runner does: two programs, two lines each
+        // as the deck runner does; a function that both programs share would be no plainer than its two lines
         let line = runner::line(deck);
         write!(output, "{line}")?;
     }

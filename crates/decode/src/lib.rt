@@ -9,14 +9,14 @@ ghost use Rattle.manual.specs.declared.Group.TheVariants.{TwoAddress, Jump};
 ghost use Rattle.manual.specs.Decode.{number_at, decode_of};
 ghost use Rattle.manual.specs.Stops.{address_of};
 ghost use Rattle.decode.specs.Fetching.{fetched_of, allows_named, unlisted};
-ghost use Rattle.decode.specs.Code.{code_named, code_opcode};
+ghost use Rattle.decode.specs.Code.{Sound, code_named, code_opcode};
 
 use manual::{Base, Form, Group, Machine, Operation};
 
 /// What decoding gives, in the run's loop. An enum of its own, which the loop takes apart by `let .. else`, with its parts one by one and stops that
 /// hold
 /// nothing: a `Result` of a struct would be packed into memory and cost the loop half as much again.
-#[derive(Clone, Copy)]
+#[derive(Clone, Copy, Debug, PartialEq, Eq)]
 pub enum Fetched {
     /// The operation, the Q and R bytes, the addresses of both operands, and of the next instruction.
     Go(Operation, u8, u8, u16, u16, u16),
@@ -142,7 +142,7 @@ fn form_at(left: usize) -> Form
 fn form_of(left: u8) -> Form
     requires { left < 16 }
     ensures form { result ≡ form_of left }
-    ensures holds { (2 + width_of result.first + width_of result.second ≤ result.length) × (3 ≤ result.length) × (result.length < 7) }
+    ensures sound { Sound result }
 {
     match left {
         0 => form_at(0),
@@ -224,12 +224,14 @@ fn allowed(op: Operation, q: u8) -> bool
     }
 }
 
-// ---- an instruction, once its opcode is known; `code` is what stands in storage from its opcode on
+// ---- an instruction, once its opcode is known; `code` is what stands in storage from its opcode on. Three functions and not one: each is inlined with its
+// own constants, so that the loop tests no form. Machine and code go as two parameters: a struct of both would be built at each turn.
 
 // One address.
 #[tactic(auto, unfolding(manual::specs::Decode::instruction_of))]
 fn single(op: Operation, form: Form, m: &Machine, code: &[u8]) -> Fetched
-    requires holds { (form.second ≡ Absent) × (2 + width_of form.first ≤ form.length) × (3 ≤ form.length) × (form.length < 7) }
+    requires sound { Sound form }
+    requires second { form.second ≡ Absent }
     requires base { first_base form.group form.first (get_or code.now 0 0 % 16) ≡ form.first }
     ensures { result ≡ fetched_of m.now (code_named m.now.iar form (Some op) code.now) }
 {
@@ -260,8 +262,8 @@ fn third(op: Operation, base: Base, m: &Machine, code: &[u8]) -> Fetched
     Fetched::Go(op, code[1], code[2], a1, 0, next)
 }
 
-// Of the operations of two addresses MVX alone refuses some Q bytes. The right digit is asked and not the operation, so that the loop keeps no call
-// here.
+// Of the operations of two addresses MVX alone refuses some Q bytes. The right digit is
+// asked and not the operation, so that the loop keeps no call here.
 #[tactic(auto, unfolding(manual::specs::Formats::allowed), using(crate::proofs::Unlisted::others_allow))]
 fn pair_allows(right: u8, q: u8) -> bool
     ensures { result ≡ allows_named (get_or two_address right None) q }
@@ -273,7 +275,8 @@ fn pair_allows(right: u8, q: u8) -> bool
 #[tactic(auto, unfolding(manual::specs::Decode::instruction_of, manual::specs::Formats::first_base))]
 fn double(right: u8, op: Operation, form: Form, m: &Machine, code: &[u8]) -> Fetched
     requires named { get_or two_address right None ≡ Some op }
-    requires holds { (form.group ≡ TwoAddress) × (2 + width_of form.first + width_of form.second ≤ form.length) × (3 ≤ form.length) × (form.length < 7) }
+    requires sound { Sound form }
+    requires group { form.group ≡ TwoAddress }
     ensures { result ≡ fetched_of m.now (code_named m.now.iar form (Some op) code.now) }
 {
     let length = usize::from(form.length);

@@ -48,6 +48,7 @@ fn word_at(line: &[u8], i: usize) -> u16
     ])
 }
 
+// By places, as the line has them: no reader of the library tells such a form.
 fn machine_of(line: &[u8]) -> Machine {
     Machine {
         iar: word_at(line, 10),

@@ -78,9 +78,8 @@ impl From<Result<usize, WriteFault>> for WriteNumbers {
 
 /// One step over the lent record and storage: 0 executed, 1 and 3 to 9 as below, with the Q and R bytes where it is 9.
 ///
-/// With any number but 0 record and storage stay as they were: 1 where storage isn't 1 to 256 whole pages of 256 bytes,
-/// else 3 where the record's status is above 63, else 4 to 8 where the instruction can't be executed, and 9 where it is
-/// a supervisor call.
+/// With any number but 0 record and storage stay as they were: 1 where storage isn't 1 to 256 whole pages of 256 bytes, else 3 where the
+/// record's status is above 63, else 4 to 8 where the instruction can't be executed, and 9 where it is a supervisor call.
 pub fn aqtovmesh_step(m: &mut Machine, storage: &mut [u8]) -> StepNumbers
     ensures { ToldStepAs m.old storage.old (record { machine = m.new; numbers = result }) storage.new }
 {
@@ -126,8 +125,7 @@ pub fn aqtovmesh_write(m: &mut Machine, storage: &[u8], out: &mut [u8]) -> Write
     deck::write(*m, storage, out).into()
 }
 
-/// The length in bytes of the deck of record and storage, 0 where storage isn't 1 to 256 whole pages of 256 bytes.
-/// The record stays.
+/// The length in bytes of the deck of record and storage, 0 where storage isn't 1 to 256 whole pages of 256 bytes. The record stays.
 pub fn aqtovmesh_deck_length(m: &mut Machine, storage: &[u8]) -> usize
     ensures { ToldLengthAs m.old storage.now (record { machine = m.new; length = result }) }
 {

@@ -1,4 +1,5 @@
-//! The entries of `host` for C, PUBLISHED: under the header's names, each with the clause of the entry that it calls.
+//! The entries of `host` for C, PUBLISHED: under the header's names, each with the clause of
+//! the entry that it calls. One function for each, as C calls them.
 #![tactic(auto)]
 
 ghost use Rattle.host.specs.Told.{ToldStepAs, ToldRunAs, ToldReadAs, ToldWriteAs, ToldLengthAs};

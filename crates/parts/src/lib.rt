@@ -7,8 +7,10 @@ ghost use Rattle.manual.specs.Formats.{reach, reach_right};
 ghost use Rattle.manual.specs.Logical.{sum_status, difference_status};
 ghost use Rattle.manual.specs.Registers.{register_named};
 ghost use Rattle.manual.specs.Places.{register_of, with_register};
+ghost use Rattle.parts.specs.Order.{bits};
 
 use manual::{Columns, Machine, Stop};
+use std::cmp::Ordering;
 
 // ---- where an operand may lie
 
@@ -48,27 +50,30 @@ pub fn size_allowed(n: usize) -> bool
 
 // ---- the status
 
-/// The status with its bits high, low and equal as in `order`.
+/// The status with its bits equal (1), low (2) and high (4) as the order says.
 #[tactic(auto, unfolding(manual::specs::TheMachine::set_order))]
-pub fn set_order(order: u8, status: u8) -> u8
-    requires { order < 8 }
-    ensures { result ≡ set_order order status }
+pub fn set_order(order: Ordering, status: u8) -> u8
+    ensures { result ≡ set_order (bits order) status }
 {
-    status / 8 * 8 + order
+    let bit = match order {
+        Ordering::Equal => 1,
+        Ordering::Less => 2,
+        Ordering::Greater => 4,
+    };
+    status / 8 * 8 + bit
 }
 
-/// Equal (1), low (2) or high (4), as the status has them: `x` against `y`, unsigned. By two tests, since a `cmp` matched on costs the loop a branch more.
+/// `x` against `y`, unsigned. By two tests, since `cmp` costs the loop a branch more.
 #[tactic(auto, unfolding(manual::specs::TheMachine::order_of))]
-pub fn order_of(x: u8, y: u8) -> u8
-    ensures order { result ≡ order_of x y }
-    ensures bound { result < 8 }
+pub fn order_of(x: u8, y: u8) -> Ordering
+    ensures { bits result ≡ order_of x y }
 {
     if x == y {
-        1
+        Ordering::Equal
     } else if x < y {
-        2
+        Ordering::Less
     } else {
-        4
+        Ordering::Greater
     }
 }
 
@@ -92,11 +97,11 @@ pub fn difference_status(status: u8, c: Columns) -> u8
     ensures { result ≡ difference_status status c }
 {
     let order = if c.clear {
-        1
+        Ordering::Equal
     } else if c.over == 0 {
-        4
+        Ordering::Greater
     } else {
-        2
+        Ordering::Less
     };
     set_order(order, status)
 }
@@ -126,8 +131,8 @@ pub fn with_test_false(status: u8) -> u8
 
 // ---- the registers by their Q byte
 
-/// The register of an allowed Q byte other than 04 (the status). Each work register by a literal index: one at run time would keep the machine in
-/// memory.
+/// The register of an allowed Q byte other than 04 (the status). Each work register by a
+/// literal index: one at run time would keep the machine in memory.
 #[tactic(auto, unfolding(manual::specs::Registers::register_named))]
 pub fn register_of(m: &Machine, q: u8) -> u16
     ensures { result ≡ register_of m.now (register_named q) }

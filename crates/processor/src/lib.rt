@@ -13,8 +13,8 @@ use manual::{Answer, Ended, Fields, Machine, Operation, Ran, Refusal, Stepped, S
 
 // ---- the inner step, without the entry tests
 
-// A match and no table of functions: the leaves are inlined into the loop. Machine and storage are two parameters, here and in each leaf: a struct of two
-// `&mut` was tried, and its maker's proof doesn't close.
+// A match and no table of functions: the leaves are inlined into the loop. Machine and storage are two parameters,
+// here and in each leaf: a struct of two `&mut` was tried, and its maker's proof doesn't close.
 #[inline(always)]
 #[tactic(auto, unfolding(manual::specs::Step::exec))]
 fn execute(m: &mut Machine, s: &mut [u8], op: Operation, f: Fields) -> Result<(), Stop>

@@ -128,7 +128,8 @@ fn put_zone(field: &mut [u8])
     put_zones(field);
 }
 
-// Whether the digits are all zero: mostly the rightmost tells. A loop, since `.all()` compiles to a slower one.
+// Whether the digits are all zero: mostly the rightmost tells. A loop, since `.all()` compiles to a
+// slower one; not one with `edit`'s `all_zero`, whose digits lie the other way round.
 #[tactic(auto, using(crate::proofs::Fields::all_zero, crate::proofs::Fields::not_zero))]
 fn is_zero(field: &[u8]) -> bool
     ensures { result ≡ eqb (size (from_right field.now)) 0 }
@@ -178,9 +179,9 @@ fn still<const NINES: bool>() -> usize
     if NINES { 1 } else { 0 }
 }
 
-// Adds the digits of a field of the same length, column by column from the right. The zones are F, so that a column is 240 and its digits. `start`, 0
-// or 1,
-// is a clause here and in two more: a type for it would be taken apart in each (no plainer).
+// Adds the digits of a field of the same length, column by column from the right. The zones are F, so that a column is 240 and its digits. What
+// stays (no plainer otherwise): `start`, 0 or 1, as a clause here and in two more, where a type would be taken apart; both fields as two
+// parameters, of which only one is altered; the two lines of a column in three loops, where a function would take the byte by `&mut`.
 fn columns<const NINES: bool>(field: &mut [u8], second: &[u8], start: usize) -> usize
     requires operands { Operands field.old second.now }
     requires same_length { length second.now ≡ length field.old }
@@ -361,8 +362,8 @@ fn combine_second<const LESS: bool>(s: &mut [u8], f: Fields, status: u8) -> u8
 
 // ---- the leaves
 
-/// ZAZ: operand 2's value is put in operand 1. It stops, and changes nothing, where an operand lies outside storage, and then where operand 2 has a
-/// digit above 9.
+/// ZAZ: operand 2's value is put in operand 1. It stops, and changes nothing, where an operand
+/// lies outside storage, and then where operand 2 has a digit above 9.
 pub fn zaz(m: &mut Machine, s: &mut [u8], f: Fields) -> Result<(), Stop>
     ensures { Does (zaz f) m.old s.old result m.new s.new }
 {
