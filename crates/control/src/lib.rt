@@ -8,7 +8,7 @@ ghost use Rattle.manual.specs.TheMachine.{turn_off, decimal_overflow, test_false
 ghost use Rattle.parts.specs.Leaf.{Does};
 
 use manual::{Columns, Fields, Machine, Stop};
-use std::cmp::Ordering;
+use parts::Order;
 
 // ---- a register and two bytes
 
@@ -45,11 +45,11 @@ fn loaded_status(b: u8) -> u8
     ensures { result ≡ loaded_status b }
 {
     let order = if b % 2 == 1 {
-        Ordering::Equal
+        Order::Equal
     } else if b / 2 % 2 == 1 {
-        Ordering::Less
+        Order::Low
     } else {
-        Ordering::Greater
+        Order::High
     };
     parts::set_order(order, b % 64)
 }

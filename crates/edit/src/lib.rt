@@ -6,11 +6,10 @@ ghost use Rattle.manual.specs.Values.{bytes_of, size, digits_of, value, sign_ord
 ghost use Rattle.manual.specs.Edit.{half_moved, mvx, count20, source_reach, put_edited, ed, ends_scan, scan, itc};
 ghost use Rattle.manual.specs.Step.{Gives};
 ghost use Rattle.parts.specs.Leaf.{Does};
-ghost use Rattle.parts.specs.Order.{bits};
+ghost use Rattle.parts.specs.Bits.{bits};
 
 use manual::{Fields, Machine, Stop};
-use parts::{reach, reach_right, set_order};
-use std::cmp::Ordering;
+use parts::{Order, reach, reach_right, set_order};
 
 // ---- MVX
 
@@ -107,16 +106,16 @@ fn all_zero(d: &[u8]) -> bool
 
 // Equal, low, high by the value being zero, minus, plus.
 #[tactic(auto, using(crate::proofs::Taking::order_equal, crate::proofs::Taking::order_signed, crate::proofs::Taking::sized))]
-fn value_order(d: &[u8]) -> Ordering
+fn value_order(d: &[u8]) -> Order
     ensures { bits result ≡ sign_order (value d.now) }
 {
     if all_zero(d) {
-        return Ordering::Equal;
+        return Order::Equal;
     }
     if d[0] / 16 == 13 {
-        return Ordering::Less;
+        return Order::Low;
     }
-    Ordering::Greater
+    Order::High
 }
 
 // Each 20 of the pattern, from the right, takes the next digit, of which `k` are taken. A byte is written only after

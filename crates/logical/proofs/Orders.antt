@@ -8,7 +8,6 @@ use Rattle.std.specs.Ordering.{nat_cmp, ordering_then}
 use Rattle.std.specs.Cmp.{nat_cmp_is}
 use Rattle.std.specs.Cmp.Lexicographic.{slice_cmp}
 use Rattle.manual.specs.TheMachine.{order_of}
-use Rattle.parts.specs.Order.{bits}
 use Rattle.manual.specs.Values.{number, bytes_of}
 use Rattle.manual.proofs.FieldBytes.{field_below, bytes_of_lem}
 
@@ -60,6 +59,12 @@ same_order s (suc n) a b la lb na nb small =
     let v = number (bytes_of s n b) in
     let ih : slice_cmp nat_cmp (take n (drop (a + 1 - n) s)) (take n (drop (b + 1 - n) s)) ≡ nat_cmp u v = same_order s n a b la lb (omega arith) (omega arith) small in
     rw (cut s n a la na, cut s n b lb nb, ih, front s n a (omega arith), front s n b (omega arith)) (sym (above (256 ^ n) x y u v (field_below s n a (bytes_of_lem s n a small)) (field_below s n b (bytes_of_lem s n b small))))
+
+-- an order as the status has it: equal, low, high
+abbrev pub bits : Ordering → ℕ
+bits Equal = 1
+bits Less = 2
+bits Greater = 4
 
 bits_order : (u v : ℕ) → bits (nat_cmp u v) ≡ order_of u v
 unfolding order_of

@@ -7,12 +7,12 @@ ghost use Rattle.manual.specs.Values.{bytes_of, number};
 ghost use Rattle.manual.specs.Logical.{copy, mvc, clc, columns, fresh, alc, slc};
 ghost use Rattle.manual.specs.Step.{Gives};
 ghost use Rattle.parts.specs.Leaf.{Does};
-ghost use Rattle.parts.specs.Order.{bits};
+ghost use Rattle.parts.specs.Bits.{bits};
 ghost use Rattle.logical.specs.Columns.{column_of, taken, over_of};
 ghost use Rattle.logical.specs.Pairs.{operands_of, Within};
 
 use manual::{Columns, Fields, Machine, Stop};
-use parts::{columns_status, reach, set_order};
+use parts::{Order, columns_status, reach, set_order};
 use std::cmp::Ordering;
 
 // Two operands of one length; each address is that of the rightmost byte. That both lie in storage stays a clause, `Within`: they
@@ -74,11 +74,15 @@ pub fn mvc(m: &mut Machine, s: &mut [u8], f: Fields) -> Result<(), Stop>
 // ---- CLC
 
 // The order of two fields as numbers is that of their bytes from the left.
-fn field_order(s: &[u8], p: Operands) -> Ordering
+fn field_order(s: &[u8], p: Operands) -> Order
     requires { Within p (length s.now) }
     ensures { bits result ≡ order_of (number (bytes_of s.now p.n p.a)) (number (bytes_of s.now p.n p.b)) }
 {
-    s[p.a + 1 - p.n..p.a + 1].cmp(&s[p.b + 1 - p.n..p.b + 1])
+    match s[p.a + 1 - p.n..p.a + 1].cmp(&s[p.b + 1 - p.n..p.b + 1]) {
+        Ordering::Equal => Order::Equal,
+        Ordering::Less => Order::Low,
+        Ordering::Greater => Order::High,
+    }
 }
 
 /// CLC: operand 1 against operand 2 as unsigned numbers.
