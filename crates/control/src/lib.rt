@@ -8,7 +8,6 @@ ghost use Rattle.manual.specs.TheMachine.{turn_off, decimal_overflow, test_false
 ghost use Rattle.parts.specs.Leaf.{Does};
 
 use manual::{Columns, Fields, Machine, Stop};
-use parts::Order;
 
 // ---- a register and two bytes
 
@@ -45,13 +44,13 @@ fn loaded_status(b: u8) -> u8
     ensures { result ≡ loaded_status b }
 {
     let order = if b % 2 == 1 {
-        Order::Equal
+        1
     } else if b / 2 % 2 == 1 {
-        Order::Low
+        2
     } else {
-        Order::High
+        4
     };
-    parts::set_order(order, b % 64)
+    b % 64 / 8 * 8 + order
 }
 
 /// L: the register that Q names comes from storage.
@@ -70,8 +69,9 @@ pub fn load(m: &mut Machine, s: &[u8], f: Fields) -> Result<(), Stop>
     Ok(())
 }
 
-/// A: the bytes are added to the register in 16 bits, the carry told apart; the status as after ALC. Where
-/// `LESS` S: they are taken off, the borrow told apart; the status as after SLC.
+/// A: the bytes are added to the register in 16 bits, the carry told apart; the status as after ALC. Where `LESS` S: they are taken off, the borrow
+/// told
+/// apart; the status as after SLC.
 #[tactic(auto, unfolding(manual::specs::Registers::add, manual::specs::Registers::subtract, manual::specs::Programs::unless, manual::specs::Programs::val, manual::specs::Programs::fin, manual::specs::Step::did, manual::specs::Formats::reach))]
 pub fn combine<const LESS: bool>(m: &mut Machine, s: &[u8], f: Fields) -> Result<(), Stop>
     ensures { Does (cond LESS subtract add f) m.old s.now result m.new s.now }

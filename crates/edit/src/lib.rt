@@ -6,10 +6,9 @@ ghost use Rattle.manual.specs.Values.{bytes_of, size, digits_of, value, sign_ord
 ghost use Rattle.manual.specs.Edit.{half_moved, mvx, count20, source_reach, put_edited, ed, ends_scan, scan, itc};
 ghost use Rattle.manual.specs.Step.{Gives};
 ghost use Rattle.parts.specs.Leaf.{Does};
-ghost use Rattle.parts.specs.Bits.{bits};
 
 use manual::{Fields, Machine, Stop};
-use parts::{Order, reach, reach_right, set_order};
+use parts::{reach, reach_right, set_order};
 
 // ---- MVX
 
@@ -25,8 +24,8 @@ fn half_moved(q: u8, x: u8, y: u8) -> u8
     }
 }
 
-/// MVX: a half of operand 2's byte is put in a half of operand 1's; Q tells which. It
-/// stops, and changes nothing, where an operand lies outside storage.
+/// MVX: a half of operand 2's byte is put in a half of operand 1's; Q tells which. It stops, and changes nothing, where an operand lies outside
+/// storage.
 #[tactic(auto, unfolding(manual::specs::Edit::mvx, manual::specs::Programs::unless, manual::specs::Programs::and_then, manual::specs::Programs::val, manual::specs::Programs::fin, manual::specs::Step::did, manual::specs::Formats::reach))]
 pub fn mvx(m: &mut Machine, s: &mut [u8], f: Fields) -> Result<(), Stop>
     ensures { Does (mvx f) m.old s.old result m.new s.new }
@@ -106,21 +105,21 @@ fn all_zero(d: &[u8]) -> bool
 
 // Equal, low, high by the value being zero, minus, plus.
 #[tactic(auto, using(crate::proofs::Taking::order_equal, crate::proofs::Taking::order_signed, crate::proofs::Taking::sized))]
-fn value_order(d: &[u8]) -> Order
-    ensures { bits result ≡ sign_order (value d.now) }
+fn value_order(d: &[u8]) -> u8
+    ensures { (result ≡ sign_order (value d.now)) × (result < 8) }
 {
     if all_zero(d) {
-        return Order::Equal;
+        return 1;
     }
     if d[0] / 16 == 13 {
-        return Order::Low;
+        return 2;
     }
-    Order::High
+    4
 }
 
-// Each 20 of the pattern, from the right, takes the next digit, of which `k` are taken. A byte is written only after
-// its turn, so the pattern is read where it lies. By address, and with `k` counted: over a slice and an iterator the
-// book's edit, a program over storage, would have to be stated again (no plainer).
+// Each 20 of the pattern, from the right, takes the next digit, of which `k` are taken. A byte is written only after its turn,
+// so the pattern is read where it lies. By address, and with `k` counted: over a slice and an iterator the book's edit, a
+// program over storage, would have to be stated again (no plainer).
 #[tactic(auto, using(crate::proofs::Editing::start, crate::proofs::Taking::counts))]
 fn put_edited(s: &mut [u8], a: usize, n: usize, d: &[u8])
     requires { (a < length s.old) × (n ≤ a + 1) × (count20 (bytes_of s.old n a) ≤ length d.now) }
@@ -135,9 +134,9 @@ fn put_edited(s: &mut [u8], a: usize, n: usize, d: &[u8])
     }
 }
 
-/// ED: each 20 of the pattern, operand 1, takes the next digit of operand 2, both from the right; the status tells
-/// the order of operand 2's value. It stops, and changes nothing, where the pattern, or operand 2 of as many bytes
-/// as there are 20s, lies outside storage, and then where a digit is above 9.
+/// ED: each 20 of the pattern, operand 1, takes the next digit of operand 2, both from the right; the status tells the order of operand 2's value. It
+/// stops, and changes nothing, where the pattern, or operand 2 of as many bytes as there are 20s, lies outside storage, and then where a digit is
+/// above 9.
 #[tactic(auto, unfolding(manual::specs::Edit::ed, manual::specs::Programs::unless, manual::specs::Programs::val, manual::specs::Step::did, manual::specs::Formats::reach), using(crate::proofs::Rules::source_in))]
 pub fn ed(m: &mut Machine, s: &mut [u8], f: Fields) -> Result<(), Stop>
     ensures { Does (ed f) m.old s.old result m.new s.new }

@@ -7,16 +7,15 @@ ghost use Rattle.manual.specs.Values.{bytes_of, number};
 ghost use Rattle.manual.specs.Logical.{copy, mvc, clc, columns, fresh, alc, slc};
 ghost use Rattle.manual.specs.Step.{Gives};
 ghost use Rattle.parts.specs.Leaf.{Does};
-ghost use Rattle.parts.specs.Bits.{bits};
 ghost use Rattle.logical.specs.Columns.{column_of, taken, over_of};
 ghost use Rattle.logical.specs.Pairs.{operands_of, Within};
 
 use manual::{Columns, Fields, Machine, Stop};
-use parts::{Order, columns_status, reach, set_order};
+use parts::{columns_status, reach, set_order};
 use std::cmp::Ordering;
 
-// Two operands of one length; each address is that of the rightmost byte. That both lie in storage stays a clause, `Within`: they
-// may overlap, so that they can't be two slices, and an invariant can't speak of a storage that is lent apart.
+// Two operands of one length; each address is that of the rightmost byte. That both lie in storage stays a clause, `Within`:
+// they may overlap, so that they can't be two slices, and an invariant can't speak of a storage that is lent apart.
 #[derive(Clone, Copy)]
 struct Operands {
     a: usize,
@@ -74,14 +73,15 @@ pub fn mvc(m: &mut Machine, s: &mut [u8], f: Fields) -> Result<(), Stop>
 // ---- CLC
 
 // The order of two fields as numbers is that of their bytes from the left.
-fn field_order(s: &[u8], p: Operands) -> Order
+fn field_order(s: &[u8], p: Operands) -> u8
     requires { Within p (length s.now) }
-    ensures { bits result ≡ order_of (number (bytes_of s.now p.n p.a)) (number (bytes_of s.now p.n p.b)) }
+    ensures order { result ≡ order_of (number (bytes_of s.now p.n p.a)) (number (bytes_of s.now p.n p.b)) }
+    ensures bound { result < 8 }
 {
     match s[p.a + 1 - p.n..p.a + 1].cmp(&s[p.b + 1 - p.n..p.b + 1]) {
-        Ordering::Equal => Order::Equal,
-        Ordering::Less => Order::Low,
-        Ordering::Greater => Order::High,
+        Ordering::Equal => 1,
+        Ordering::Less => 2,
+        Ordering::Greater => 4,
     }
 }
 
@@ -209,8 +209,8 @@ fn left<const LESS: bool>(s: &mut [u8], p: Operands) -> Columns
     ones::<LESS>(s, p, 4 * k, c)
 }
 
-/// ALC: operand 2 is added to operand 1, and the carry out of the leftmost byte is binary
-/// overflow. Where `LESS` SLC: it is taken off, and binary overflow stays.
+/// ALC: operand 2 is added to operand 1, and the carry out of the leftmost byte is binary overflow. Where `LESS` SLC: it is taken off, and binary
+/// overflow stays.
 #[tactic(auto, unfolding(manual::specs::Logical::alc, manual::specs::Logical::slc), using(parts::proofs::Ways::pairs))]
 pub fn combine<const LESS: bool>(m: &mut Machine, s: &mut [u8], f: Fields) -> Result<(), Stop>
     ensures { Does (cond LESS slc alc f) m.old s.old result m.new s.new }

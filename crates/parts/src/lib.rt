@@ -7,7 +7,6 @@ ghost use Rattle.manual.specs.Formats.{reach, reach_right};
 ghost use Rattle.manual.specs.Logical.{sum_status, difference_status};
 ghost use Rattle.manual.specs.Registers.{register_named};
 ghost use Rattle.manual.specs.Places.{register_of, with_register};
-ghost use Rattle.parts.specs.Bits.{bits};
 
 use manual::{Columns, Machine, Stop};
 
@@ -49,34 +48,28 @@ pub fn size_allowed(n: usize) -> bool
 
 // ---- the status
 
-/// An order, with the bit that the status has for it.
-#[derive(Clone, Copy, Debug, PartialEq, Eq)]
-pub enum Order {
-    Equal = 1,
-    Low = 2,
-    High = 4,
-}
-
-/// The status with the bits equal, low and high as the order says.
+/// The status with its bits high, low and equal as in `order`.
 #[tactic(auto, unfolding(manual::specs::TheMachine::set_order))]
-pub fn set_order(order: Order, status: u8) -> u8
-    ensures { result ≡ set_order (bits order) status }
+pub fn set_order(order: u8, status: u8) -> u8
+    requires { order < 8 }
+    ensures { result ≡ set_order order status }
 {
-    status / 8 * 8 + order as u8
+    status / 8 * 8 + order
 }
 
-/// `x` against `y`, unsigned. By two tests, and with the bits as its own numbers: std's `cmp` and `Ordering` cost the loop one instruction
-/// in a hundred.
+/// Equal (1), low (2) or high (4), the status's own bits: `x` against `y`, unsigned. By two tests, since `cmp` costs the loop a branch more. Orders are
+/// numbers here and where one is made: tried as std's `Ordering` and as an enum with these numbers, the loop took one or two instructions in a hundred more.
 #[tactic(auto, unfolding(manual::specs::TheMachine::order_of))]
-pub fn order_of(x: u8, y: u8) -> Order
-    ensures { bits result ≡ order_of x y }
+pub fn order_of(x: u8, y: u8) -> u8
+    ensures order { result ≡ order_of x y }
+    ensures bound { result < 8 }
 {
     if x == y {
-        Order::Equal
+        1
     } else if x < y {
-        Order::Low
+        2
     } else {
-        Order::High
+        4
     }
 }
 
@@ -100,11 +93,11 @@ pub fn difference_status(status: u8, c: Columns) -> u8
     ensures { result ≡ difference_status status c }
 {
     let order = if c.clear {
-        Order::Equal
+        1
     } else if c.over == 0 {
-        Order::High
+        4
     } else {
-        Order::Low
+        2
     };
     set_order(order, status)
 }
@@ -134,8 +127,8 @@ pub fn with_test_false(status: u8) -> u8
 
 // ---- the registers by their Q byte
 
-/// The register of an allowed Q byte other than 04 (the status). Each work register by a
-/// literal index: one at run time would keep the machine in memory.
+/// The register of an allowed Q byte other than 04 (the status). Each work register by a literal
+/// index: one at run time would keep the machine in memory.
 #[tactic(auto, unfolding(manual::specs::Registers::register_named))]
 pub fn register_of(m: &Machine, q: u8) -> u16
     ensures { result ≡ register_of m.now (register_named q) }

@@ -17,5 +17,5 @@ returns c =
     let h = reach_in (length c.args.s.now) (c.args.f.q + 1) c.args.f.a1 c.in_ok-reach.ensures in
     let few : c.count_20-count.result ≤ 256 = omega arith in
     let e = lent_full _ c.take.new.d c.count_20-count.result c.take.auto.d few in
-    rw (c.set_order-m.ensures, c.value_order.ensures)
+    rw (c.set_order-m.ensures, c.value_order.ensures.0)
     (ed_goes c.args.m.now c.args.s.now c.args.f c.in_ok-reach.ensures _ c.count_20-count.ensures.0 c.in_ok-source_reach.ensures _ (rw e at c.take.ensures) c.put_edited.new.s c.in_ok-digits_of.ensures c.put_edited.ensures)
