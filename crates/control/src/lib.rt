@@ -69,9 +69,8 @@ pub fn load(m: &mut Machine, s: &[u8], f: Fields) -> Result<(), Stop>
     Ok(())
 }
 
-/// A: the bytes are added to the register in 16 bits, the carry told apart; the status as after ALC. Where `LESS` S: they are taken off, the borrow
-/// told
-/// apart; the status as after SLC.
+/// A: the bytes are added to the register in 16 bits, the carry told apart; the status as after ALC. Where `LESS` S: they are
+/// taken off, the borrow told apart; the status as after SLC.
 #[tactic(auto, unfolding(manual::specs::Registers::add, manual::specs::Registers::subtract, manual::specs::Programs::unless, manual::specs::Programs::val, manual::specs::Programs::fin, manual::specs::Step::did, manual::specs::Formats::reach))]
 pub fn combine<const LESS: bool>(m: &mut Machine, s: &[u8], f: Fields) -> Result<(), Stop>
     ensures { Does (cond LESS subtract add f) m.old s.now result m.new s.now }
