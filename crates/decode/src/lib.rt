@@ -13,9 +13,8 @@ ghost use Rattle.decode.specs.Code.{Sound, code_named, code_opcode};
 
 use manual::{Base, Form, Group, Machine, Operation};
 
-/// What decoding gives, in the run's loop. An enum of its own, which the loop takes apart by `let .. else`, with its parts one by one and stops that
-/// hold
-/// nothing: a `Result` of a struct would be packed into memory and cost the loop half as much again.
+/// What decoding gives, in the run's loop. An enum of its own, which the loop takes apart by `let .. else`, with its parts one by one and
+/// stops that hold nothing: a `Result` of a struct would be packed into memory and cost the loop half as much again.
 #[derive(Clone, Copy, Debug, PartialEq, Eq)]
 pub enum Fetched {
     /// The operation, the Q and R bytes, the addresses of both operands, and of the next instruction.

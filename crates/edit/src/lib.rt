@@ -24,8 +24,8 @@ fn half_moved(q: u8, x: u8, y: u8) -> u8
     }
 }
 
-/// MVX: a half of operand 2's byte is put in a half of operand 1's; Q tells which. It stops, and changes nothing, where an operand lies outside
-/// storage.
+/// MVX: a half of operand 2's byte is put in a half of operand 1's; Q tells which. It
+/// stops, and changes nothing, where an operand lies outside storage.
 #[tactic(auto, unfolding(manual::specs::Edit::mvx, manual::specs::Programs::unless, manual::specs::Programs::and_then, manual::specs::Programs::val, manual::specs::Programs::fin, manual::specs::Step::did, manual::specs::Formats::reach))]
 pub fn mvx(m: &mut Machine, s: &mut [u8], f: Fields) -> Result<(), Stop>
     ensures { Does (mvx f) m.old s.old result m.new s.new }

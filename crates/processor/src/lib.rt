@@ -119,9 +119,8 @@ fn admitted(size: usize, budget: u32, status: u8) -> Result<(), Refusal>
     Ok(())
 }
 
-/// Executes the instruction at IAR. Refused with 1 where the storage isn't 256 to 65,536 bytes and a multiple of 256, with 3 where the status is 64
-/// or
-/// more; a refusal and a stop leave machine and storage. A step is a run of one turn.
+/// Executes the instruction at IAR. Refused with 1 where the storage isn't 256 to 65,536 bytes and a multiple of 256, with 3 where
+/// the status is 64 or more; a refusal and a stop leave machine and storage. A step is a run of one turn.
 pub fn step(m: Machine, s: &mut [u8]) -> Stepped
     ensures { SteppedAs m s.old result s.new }
 {

@@ -48,9 +48,8 @@ fn some_bad(part: &[u8]) -> bool
     bad
 }
 
-// The same of a field: its first 16 or 8 and as many last, since a constant count leaves no rest that goes one by one. The length, 31 at most, is a
-// clause
-// here and in two more: a slice has none in its type, and a struct round it would be no plainer.
+// The same of a field: its first 16 or 8 and as many last, since a constant count leaves no rest that goes one by one. The length, 31 at
+// most, is a clause here and in two more: a slice has none in its type, and a struct round it would be no plainer.
 fn has_bad(field: &[u8]) -> bool
     requires { length field.now ≤ 31 }
     ensures { (result ≡ false) ↔ Digits field.now }
