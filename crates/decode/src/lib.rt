@@ -225,6 +225,7 @@ fn allowed(op: Operation, q: u8) -> bool
 
 // ---- an instruction, once its opcode is known; `code` is what stands in storage from its opcode on. Three functions and not one: each is inlined with its
 // own constants, so that the loop tests no form. Machine and code go as two parameters: a struct of both would be built at each turn.
+// That a form is `Sound` is a clause of three: `Form` is the book's type, where the table alone makes it so.
 
 // One address.
 #[tactic(auto, unfolding(manual::specs::Decode::instruction_of))]

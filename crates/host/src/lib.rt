@@ -7,7 +7,7 @@ ghost use Rattle.host.specs.Told.{step_numbers, run_numbers, write_numbers, Told
 
 use manual::{Answer, Ended, Machine, WriteFault};
 
-// ---- what comes back: numbers only, since C has no enum of ours
+// ---- what comes back: numbers only, a length beside its number too, since C has no enum of ours
 
 /// What a step tells: the number of its answer, 0 to 9, and with 9 the Q and R bytes of the supervisor call.
 #[repr(C)]

@@ -75,7 +75,7 @@ fn inner(m: &mut Machine, s: &mut [u8]) -> Result<(), Stop>
 
 // ---- the loop: the budget is tested before each fetch
 
-// A call of its own: within `run` the compiler gives the loop a sixth more instructions.
+// A call of its own: within `run` the compiler gives the loop 7 to 17 instructions a step more.
 #[inline(never)]
 #[tactic(auto, unfolding(manual::specs::Run::turns_of))]
 fn turns(m: Machine, s: &mut [u8], budget: u32) -> Ran

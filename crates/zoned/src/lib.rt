@@ -178,9 +178,10 @@ fn still<const NINES: bool>() -> usize
     if NINES { 1 } else { 0 }
 }
 
-// Adds the digits of a field of the same length, column by column from the right. The zones are F, so that a column is 240 and its digits. What
-// stays (no plainer otherwise): `start`, 0 or 1, as a clause here and in two more, where a type would be taken apart; both fields as two
-// parameters, of which only one is altered; the two lines of a column in three loops, where a function would take the byte by `&mut`.
+// Adds the digits of a field of the same length, column by column from the right. The zones are F, so that a column is 240 and its
+// digits. What stays (no plainer otherwise): `Operands` of the two fields as a clause in four functions, and the fields as two
+// parameters, of which only one is altered; `start`, 0 or 1, as a clause here and in two more, where a type would be taken apart;
+// the two lines of a column in three loops, where a function would take the byte by `&mut`.
 fn columns<const NINES: bool>(field: &mut [u8], second: &[u8], start: usize) -> usize
     requires operands { Operands field.old second.now }
     requires same_length { length second.now ≡ length field.old }
