@@ -1,5 +1,5 @@
 //! The reader: a pass that checks the deck, and a pass that lays its pages.
-ghost use Rattle.std.specs.Prelude.{◌≡◌, ◌+◌, ◌*◌, ◌<◌, ◌≤◌, length, get_or, drop, OnOk, IfOk, IfErr, IfSome, IfNone, List, Ok, Err, ℕ};
+ghost use Rattle.std.specs.Prelude.{◌≡◌, ◌+◌, ◌*◌, ◌<◌, ◌≤◌, length, get_or, drop, OnOk, OnErr, IfOk, IfErr, IfSome, IfNone, List, Ok, Err, ℕ};
 ghost use Rattle.manual.specs.Numbers.{ReadAnswer};
 ghost use Rattle.manual.specs.Deck.{record_answer, first_answer, page_answer, later_answer, deck_answer, over, paged};
 ghost use Rattle.manual.proofs.DeckRecords.{Asked, later_record, EndAt};
@@ -55,12 +55,14 @@ fn first(d: &[u8], size: usize) -> Result<(), DeckFault>
 }
 
 impl<'a> Records<'a> {
-    // The page of the next record, or none at the end of the deck.
+    // The page of the next record, behind which the walk then stands, or none at the end of the deck; there, and at a refusal, it stays.
     #[tactic(auto, unfolding(manual::proofs::DeckRecords::later_record))]
     fn next_page(&mut self) -> Result<Option<Page<'a>>, DeckFault>
         ensures page { IfOk result (λ r. IfSome r (λ p. IsPage self.old.rest.now p self.new.rest.now)) }
         ensures end { IfOk result (λ r. IfNone r (EndAt self.old.rest.now)) }
         ensures err { IfErr result (λ x. (pages next : ℕ) (more : ReadAnswer) → later_record self.old.rest.now pages next more ≡ Err x) }
+        ensures stays_at_end { IfOk result (λ r. IfNone r (self.new.rest.now ≡ self.old.rest.now)) }
+        ensures stays_refused { OnErr result (self.new.rest.now ≡ self.old.rest.now) }
     {
         let d = self.rest;
         match asked(d, false)? {

@@ -1,9 +1,8 @@
 //! The decoder: the sixteen-entry table by the opcode's left digit, and the instruction at IAR, or a stop in the order 4, 5, 4, 6.
 #![tactic(auto)]
 
-ghost use Rattle.std.specs.Prelude.{◌≡◌, ℕ, true, ◌+◌, ◌/◌, ◌%◌, ◌<◌, ◌≤◌, T, length, get_or};
+ghost use Rattle.std.specs.Prelude.{◌≡◌, ℕ, true, ◌+◌, ◌/◌, ◌%◌, ◌<◌, ◌≤◌, T, length, get_or, Some, None};
 ghost use Rattle.manual.specs.Formats.{form_of, width_of, allowed, first_base, is_index_or_work, is_sum_register, is_register, two_address, operation_of};
-ghost use Rattle.std.specs.Prelude.{Some, None};
 ghost use Rattle.manual.specs.declared.Base.TheVariants.{Absent};
 ghost use Rattle.manual.specs.declared.Group.TheVariants.{TwoAddress, Jump};
 ghost use Rattle.manual.specs.Decode.{number_at, decode_of};
