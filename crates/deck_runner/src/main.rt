@@ -12,7 +12,7 @@ fn answer<W: Write>(deck: &[u8], output: &mut W) -> io::Result<()>
     ensures { OnOk result (Appends (W.contents output.old) (W.contents output.new) (line_of deck.now)) }
 {
     let line = runner::line(deck);
-    write!(output, "{line}")
+    output.write_all(&line.bytes[..line.length])
 }
 
 // Writes the line of all the bytes of the input: as many as the buffer holds decide it.

@@ -40,7 +40,7 @@ fn decks<R: Read, W: Write>(input: &mut R, output: &mut W, buffer: &mut [u8]) ->
         };
         // as the deck runner does; a function that both programs share would be no plainer than its two lines
         let line = runner::line(deck);
-        write!(output, "{line}")?;
+        output.write_all(&line.bytes[..line.length])?;
     }
     Ok(())
 }

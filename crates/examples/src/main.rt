@@ -8,6 +8,7 @@ ghost use Rattle.std.specs.Iterator.{at_most};
 
 use manual::Machine;
 use runner::Registers;
+use std::fmt::{Display, InlineText};
 use std::io::{self, Write};
 
 // ---- reading
@@ -123,6 +124,21 @@ fn lay(line: &[u8], s: &mut [u8]) {
     }
 }
 
+// Prints a text of 64 bytes at most in one write: `write!` to an output that has no buffer writes digit by digit.
+fn print<W: Write, D: Display + Drop>(output: &mut W, text: D) -> io::Result<()> {
+    output.write_all(InlineText::<64>::of(text).as_str().as_bytes())
+}
+
+fn digit(value: u8) -> u8
+    requires { value < 16 }
+{
+    if value < 10 {
+        b'0' + value
+    } else {
+        b'A' + (value - 10)
+    }
+}
+
 // Prints the stretches of a line with the bytes that storage has there; 00 past its end.
 fn print_stretches<W: Write>(output: &mut W, line: &[u8], s: &[u8]) -> io::Result<()> {
     let mut a: usize = 0;
@@ -130,12 +146,12 @@ fn print_stretches<W: Write>(output: &mut W, line: &[u8], s: &[u8]) -> io::Resul
         match piece {
             Piece::Address(address) => {
                 a = usize::from(address);
-                write!(output, " {address:04X}:")?;
+                print(output, format_args!(" {address:04X}:"))?;
             }
             Piece::Blank => {}
             Piece::Byte(_) => {
                 let byte = at(s, a);
-                write!(output, "{byte:02X}")?;
+                output.write_all(&[digit(byte / 16), digit(byte % 16)])?;
                 a = a.saturating_add(1);
             }
         }
@@ -154,9 +170,12 @@ fn example<W: Write>(output: &mut W, line: &[u8]) -> io::Result<()> {
     let registers = Registers(stepped.machine);
     let status = stepped.machine.status;
     output.write_all(line)?;
-    write!(output, " -> {number} {registers} {status:02X}")?;
+    print(
+        output,
+        format_args!(" -> {number} {registers} {status:02X}"),
+    )?;
     print_stretches(output, line, &s)?;
-    writeln!(output)
+    output.write_all(b"\n")
 }
 
 fn examples<W: Write>(output: &mut W, text: &[u8]) -> io::Result<()> {

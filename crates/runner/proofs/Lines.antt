@@ -1,58 +1,73 @@
--- A line's text, put together of what is written: numbers as the book writes them, and a run's line.
-use Rattle.std.proofs.Common.{◌≡◌, ℕ, ◌%◌, ◌<◌, List, [], ◌∷◌, ◌++◌, refl, sym, ap, append_assoc, ◌∙◌, arith, lt-ltb, le-ltb}
-use Rattle.std.specs.Fmt as Fmt
-use Rattle.std.proofs.lemmas.Fmt.{AppendsLastDigit, decimal_from_appends, length-decimal-le}
+-- Decimals clause by clause, as the code tests them, pieces appended, and a line from its text and the zeros behind it.
+use Prim.Native.Nat.{ℕ, zero, suc, ◌+◌, ◌-◌, ◌/◌, ◌%◌, ◌<◌, ◌≤◌}
+use native.Mathlib.Omega.{arith}
+use native.Mathlib.Nat.{suc-ne-zero}
+use native.Mathlib.Numerals.{sub-one}
+use mathlib.Core.Path.{◌≡◌, refl, ap, sym, ◌∙◌}
+use mathlib.Core.List.{List, [], ◌∷◌, ◌++◌, append-nil, append_assoc}
+use borrow.Author.Tests.{lt-ltb, le-ltb}
+use lib.ListN.{length, drop, set, replicate, take-append-drop}
+use lib.Seq.{length-take-le, drop-set-lt, drop-drop}
 use Rattle.manual.specs.declared.Machine.{Machine}
-use Rattle.manual.specs.declared.Ended.{Ended}
-use Rattle.manual.specs.declared.Ran.{Ran}
-use Rattle.manual.specs.declared.DeckFault.{DeckFault}
-use Rattle.manual.specs.Numbers.{Told, told, answer_told, fault_number}
-use Rattle.manual.specs.Runner.{blank, newline, byte_text, decimal, decimal_text, registers_text, number_line, run_line}
-use Rattle.told.proofs.Telling.{told_of}
+use Rattle.manual.specs.Runner.{character, blank, newline, byte_text, decimal, registers_text, run_line}
 use Rattle.runner.specs.declared.Printed.{Printed}
-use Rattle.runner.specs.declared.Printed.TheVariants.{TooLarge, Refused}
-use Rattle.runner.specs.declared.Printed.TheVariants as P
-use Rattle.runner.specs.Text.{run_shown, shown, printed_of}
+use Rattle.runner.specs.Text.{text, printed, Behind}
 
--- the book's decimal, whose digits are counted, is the one that `{}` writes
-last_digits : AppendsLastDigit decimal
+pub decimal_none : (l : List ℕ) (n x : ℕ) → n ≡ 0 → l ≡ l ++ decimal n x
 unfolding decimal
-last_digits = record {
-  one = λ k n h. rw (lt-ltb n 10 h);
-  more = λ k n h. rw (le-ltb n 10 h, lt-ltb (n % 10) 10 (omega arith));
-}
+decimal_none l n x h = rw (h, append-nil)
 
-pub eight_digits : (x : ℕ) → x < 100000000 → Fmt.decimal x ≡ decimal_text x
-eight_digits x h = sym (decimal_from_appends decimal last_digits 8 x (omega arith) (length-decimal-le 8 x (omega arith) h (omega arith)))
+pub decimal_last : (n x : ℕ) → (n ≡ 0 → ⊥) → x < 10 → decimal n x ≡ character x ∷ []
+unfolding decimal
+decimal_last zero x ne h = absurd (ne refl)
+decimal_last (suc n) x ne h = rw (lt-ltb _ _ h)
 
-pub shown_run : (m : Machine) (t : Told) → t.steps < 100000000 → run_shown m t ≡ run_line m t
+pub decimal_more :
+    (l : List ℕ) (n x : ℕ) → (n ≡ 0 → ⊥) → 10 ≤ x → l ++ decimal n x ≡ (l ++ decimal (n - 1) (x / 10)) ++ character (x % 10) ∷ []
+unfolding decimal
+decimal_more l zero x ne h = absurd (ne refl)
+decimal_more l (suc n) x ne h = rw (sub-one, le-ltb _ _ h, append_assoc)
+
+-- eight pieces appended one by one
+pub eight :
+    (l a b c d e f g h : List ℕ) {l₁ l₂ l₃ l₄ l₅ l₆ l₇ l₈ : List ℕ} → l₁ ≡ l ++ a → l₂ ≡ l₁ ++ b → l₃ ≡ l₂ ++ c → l₄ ≡ l₃ ++ d → l₅ ≡ l₄ ++ e
+    → l₆ ≡ l₅ ++ f → l₇ ≡ l₆ ++ g → l₈ ≡ l₇ ++ h → l₈ ≡ l ++ (a ++ b ++ c ++ d ++ e ++ f ++ g ++ h)
+eight l a b c d e f g h p₁ p₂ p₃ p₄ p₅ p₆ p₇ p₈ = rw (p₈, p₇, p₆, p₅, p₄, p₃, p₂, p₁) (simp append_assoc)
+
+-- the pieces of a run's line appended one by one
+pub run_text :
+    (m : Machine) (n k q r : ℕ) → n < 10 → {l₀ l₁ l₂ l₃ l₄ l₅ l₆ l₇ l₈ : List ℕ} → l₀ ≡ [] → l₁ ≡ l₀ ++ character n ∷ [] → l₂ ≡ l₁ ++ blank ∷ registers_text m
+    → l₃ ≡ l₂ ++ blank ∷ byte_text m.status → l₄ ≡ l₃ ++ blank ∷ [] → l₅ ≡ l₄ ++ decimal 8 k → l₆ ≡ l₅ ++ blank ∷ byte_text q
+    → l₇ ≡ l₆ ++ blank ∷ byte_text r → l₈ ≡ l₇ ++ newline ∷ [] → l₈ ≡ run_line m (record { number = n; q = q; r = r; steps = k })
 unfolding run_line
-shown_run m t h = rw (eight_digits t.steps h)
+run_text m n k q r h {l₃ = l₃} p₀ p₁ p₂ p₃ p₄ p₅ p₆ p₇ p₈ =
+    rw (p₈, p₇, p₆, p₅, p₄, append_assoc l₃ (blank ∷ []) (decimal 8 k), p₃, p₂, p₁, p₀, decimal_last 8 n (suc-ne-zero 7) h)
 
-pub steps_told : (e : Ended) → (told e).steps ≡ e.steps
-steps_told e = sym (ap (λ (t : Told). t.steps) (told_of e.answer e.steps refl refl refl))
+-- and their lengths
+pub run_length :
+    {n₀ n₁ n₂ n₃ n₄ n₅ n₆ n₇ : ℕ} → n₀ ≡ 0 → n₁ ≡ n₀ + 1 → n₂ ≡ n₁ + 40 → n₃ ≡ n₂ + 3 → n₄ ≡ n₃ + 1 → n₅ ≤ n₄ + 8 → n₆ ≡ n₅ + 3 → n₇ ≡ n₆ + 3 → n₇ + 1 ≤ 64
+run_length p₀ p₁ p₂ p₃ p₄ p₅ p₆ p₇ = omega arith
 
--- ---- what is written in each case
+-- ---- the zeros behind a text
 
-pub large_text : (p : Printed) → p ≡ TooLarge → 49 ∷ 56 ∷ 10 ∷ [] ≡ shown p
-unfolding number_line decimal
-large_text p h = rw h refl
+drop_zeros : (k : ℕ) → drop {A = ℕ} 1 (replicate k 0) ≡ replicate (k - 1) 0
+drop_zeros zero = refl
+drop_zeros (suc k) = rw sub-one
 
-pub refused_text : (p : Printed) (x : DeckFault) (n : ℕ) → p ≡ Refused x → n ≡ fault_number x → n < 256 → Fmt.decimal n ++ 10 ∷ [] ≡ shown p
-unfolding number_line
-refused_text p x n h e small = rw (h, ← e, eight_digits n (omega arith)) refl
+less_one : (n : ℕ) → 64 - n - 1 ≡ 64 - (n + 1)
+less_one n = omega arith
 
-pub ran_text :
-    (p : Printed) (g : Ran) (n k q r : ℕ) → p ≡ P.Ran g → (n ≡ (answer_told g.ended.answer 0).number) × (n < 10) → k ≡ g.ended.steps
-    → q ≡ (answer_told g.ended.answer 0).q → r ≡ (answer_told g.ended.answer 0).r
-    → Fmt.decimal n ++ (blank ∷ (registers_text g.machine ++ (blank ∷ (byte_text g.machine.status ++ (blank ∷ (Fmt.decimal k ++ (blank
-    ∷ (byte_text q ++ (blank ∷ (byte_text r ++ (newline ∷ [])))))))))))
-    ≡ shown p
-ran_text p g n k q r h hn hk hq hr =
-    let told_so : run_shown g.machine (record { number = n; q = q; r = r; steps = g.ended.steps }) ≡ run_shown g.machine (told g.ended) =
-    ap (run_shown g.machine) (told_of g.ended.answer g.ended.steps hn.0 hq hr) in
-    rw (h, ← told_so, hk, eight_digits n (omega arith)) (simp append_assoc)
+-- a byte stored at the text's end leaves those behind it
+pub behind_set : (bs : List ℕ) (n b : ℕ) → drop n bs ≡ replicate (64 - n) 0 → drop (n + 1) (set bs n b) ≡ replicate (64 - (n + 1)) 0
+behind_set bs n b h =
+    drop-set-lt (n + 1) bs n b (omega arith) ∙ sym (drop-drop 1 n bs) ∙ ap (λ (l : List ℕ). drop 1 l) h ∙ drop_zeros (64 - n) ∙ ap (λ (k : ℕ). replicate k 0) (less_one n)
 
--- two lines that `line` may give for a deck coincide
-pub shown_once : (p p' : Printed) (d : List ℕ) → p ≡ printed_of d → p' ≡ printed_of d → p ≡ p'
-shown_once p p' d h h' = h ∙ sym h'
+pub as_printed : (r : Printed) (t : List ℕ) → text r ≡ t → r.length ≤ length r.bytes → Behind r → r ≡ printed t
+as_printed r t p h z =
+    let e : r.length ≡ length t = sym (length-take-le r.length r.bytes h) ∙ ap length p in
+    let b : r.bytes ≡ t ++ replicate (64 - length t) 0 = sym (take-append-drop r.length r.bytes) ∙ (rw (p, z, e)) in
+    λ i. record { bytes = b i; length = e i }
+
+-- two lines of the same text coincide
+pub shown_once : (r r' : Printed) (t : List ℕ) → r ≡ printed t → r' ≡ printed t → r ≡ r'
+shown_once r r' t h h' = h ∙ sym h'

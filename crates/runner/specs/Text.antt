@@ -1,32 +1,22 @@
--- What is printed of a deck, and the text that it shows.
-use Rattle.std.specs.Prelude.{ℕ, List, ◌∷◌, [], ◌++◌, cond, replicate, Ok, Err}
-use Rattle.std.specs.Fmt.{decimal}
-use Rattle.manual.specs.declared.Machine.{Machine}
-use Rattle.manual.specs.Numbers.{Told, told, fault_number, ReadAnswer}
-use Rattle.manual.specs.Run.{run_of}
-use Rattle.manual.specs.Deck.{ReadOutcome, read_of}
-use Rattle.manual.specs.Runner.{blank, newline, byte_text, decimal_text, registers_text, number_line, too_large, lent_size, budget}
+-- The text that a line holds, at the front of its 64 bytes with zeros behind it, and what appending to it does.
+use Rattle.std.specs.Prelude.{ℕ, ◌+◌, ◌-◌, ◌≤◌, ◌≡◌, List, ◌++◌, length, take, drop, replicate}
 use Rattle.runner.specs.declared.Printed.{Printed}
-use Rattle.runner.specs.declared.Printed.TheVariants.{TooLarge, Refused, Ran}
 
--- the line of a run, with all digits of the steps; the book's has eight of them, and no run that is printed has more
-abbrev pub run_shown : Machine → Told → List ℕ
-run_shown m t =
-    decimal_text t.number ++ blank ∷ registers_text m ++ blank ∷ byte_text m.status ++ blank ∷ decimal t.steps ++ blank
-    ∷ byte_text t.q ++ blank ∷ byte_text t.r ++ newline ∷ []
+-- the text t as a line
+abbrev pub printed : List ℕ → Printed
+printed t = record { bytes = t ++ replicate (64 - length t) 0; length = length t }
 
-abbrev pub shown : Printed → List ℕ
-shown TooLarge = number_line 18
-shown (Refused x) = number_line (fault_number x)
-shown (Ran r) = run_shown r.machine (told r.ended)
+abbrev pub text : Printed → List ℕ
+text l = take l.length l.bytes
 
--- the deck was read as o
-abbrev pub outcome : ReadAnswer → ReadOutcome → Printed
-outcome (Ok tt) o = Ran (run_of o.gave.machine o.storage budget).gave
-outcome (Err x) o = Refused x
+-- zeros stand behind the text
+abbrev pub Behind : Printed → Type 0
+Behind l = drop l.length l.bytes ≡ replicate (64 - l.length) 0
 
--- what becomes of a deck: 18 before other refusals, else it is read and run
-unfoldable pub printed_of : List ℕ → Printed
-printed_of d =
-    let o : ReadOutcome = read_of d (replicate (lent_size d) 0) in
-    cond (too_large d) TooLarge (outcome o.gave.answer o)
+-- n more bytes have room
+abbrev pub Room : Printed → ℕ → Type 0
+Room l n = (length l.bytes ≡ 64) × (l.length + n ≤ 64)
+
+-- r is l with t appended, n bytes
+abbrev pub Adds : Printed → List ℕ → ℕ → Printed → Type 0
+Adds l t n r = (text r ≡ text l ++ t) × (r.length ≡ l.length + n) × (length r.bytes ≡ 64) × (Behind l → Behind r)

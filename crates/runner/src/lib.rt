@@ -1,50 +1,48 @@
-//! What the deck runner prints of a deck, PUBLISHED: no `requires`, and statements that determine the value and every byte of its text.
+//! The deck runner's line, PUBLISHED: no `requires`, and one statement that determines every byte of the line.
 #![tactic(auto)]
 
 mod registers;
+mod text;
 
-ghost use Rattle.std.specs.Prelude.{◌≡◌, false, ◌≤◌, length, get_or, Some};
-ghost use Rattle.manual.specs.Runner.{too_large, lent_size, line_of};
-ghost use Rattle.runner.specs.Text.{printed_of};
+ghost use Rattle.std.specs.Prelude.{◌≡◌, false, ◌≤◌, length, get_or};
+ghost use Rattle.manual.specs.Numbers.{told};
+ghost use Rattle.manual.specs.Runner.{too_large, lent_size, number_line, run_line, line_of};
+ghost use Rattle.runner.specs.Text.{printed};
 
-use manual::{DeckFault, Ran};
-use registers::HexByte;
+use manual::{Ended, Machine};
 pub use registers::Registers;
-use std::fmt;
 
-/// What became of a deck. Displayed it is the line that the deck runner prints, its newline included.
+/// A line, its newline included: it stands at the front of `bytes`, as many as `length` tells, with zeros behind it. A buffer and no
+/// `Display`, whose `fmt` may fail and whose pieces would be written one by one: so a line can't fail, and is written whole.
 #[derive(Clone, Copy, Debug, PartialEq, Eq)]
-pub enum Printed {
-    /// The deck has more than 16,532 bytes, or asks for more than 64 pages: number 18.
-    TooLarge,
-    /// The deck isn't read, and why: that reason's number.
-    Refused(DeckFault),
-    /// The deck is read, and run for a million steps at most: number, registers, status, steps, and the Q and R bytes of a supervisor call.
-    Ran(Ran),
+pub struct Printed {
+    /// The line, and zeros.
+    pub bytes: [u8; 64],
+    /// The line's bytes.
+    pub length: usize,
 }
 
-impl fmt::Display for Printed {
-    ghost use Rattle.std.specs.Prelude.{Some};
-    ghost use Rattle.runner.specs.Text.{shown};
+// ---- the two kinds of line
 
-    ghost output = { λ p. Some (shown p) };
+#[tactic(auto, unfolding(manual::specs::Runner::number_line), using(crate::proofs::Lines::as_printed))]
+fn number_line(n: u8) -> Printed
+    ensures { (result ≡ printed (number_line n)) × (result.length ≤ length result.bytes) }
+{
+    let l = text::with_decimal(text::nothing(), u32::from(n), 8);
+    text::with_byte(l, b'\n')
+}
 
-    fn fmt<W: fmt::Write>(&self, f: &mut fmt::Formatter<W>) -> fmt::Result {
-        match *self {
-            Printed::TooLarge => writeln!(f, "18"),
-            Printed::Refused(fault) => writeln!(f, "{}", told::fault_number(fault)),
-            Printed::Ran(ran) => {
-                let answer = ran.ended.answer;
-                let number = told::number_of(answer);
-                let registers = Registers(ran.machine);
-                let status = HexByte(ran.machine.status);
-                let steps = ran.ended.steps;
-                let q = HexByte(told::q_of(answer));
-                let r = HexByte(told::r_of(answer));
-                writeln!(f, "{number} {registers} {status} {steps} {q} {r}")
-            }
-        }
-    }
+fn run_line(m: Machine, e: Ended) -> Printed
+    ensures { (result ≡ printed (run_line m (told e))) × (result.length ≤ length result.bytes) }
+{
+    let a = e.answer;
+    let number = text::with_digit(text::nothing(), told::number_of(a));
+    let registers = text::with_registers(number, m);
+    let status = text::with_field(registers, m.status);
+    let steps = text::with_decimal(text::with_byte(status, b' '), e.steps, 8);
+    let q = text::with_field(steps, told::q_of(a));
+    let r = text::with_field(q, told::r_of(a));
+    text::with_byte(r, b'\n')
 }
 
 // ---- the deck
@@ -63,26 +61,29 @@ fn too_large(deck: &[u8]) -> bool
     16532 < deck.len() || 63 < second(deck)
 }
 
-// What becomes of a deck that isn't too large, read into the storage `s`, whatever that holds.
+// The line of a deck that isn't too large, read into the storage `s`, whatever that holds.
 fn answered(deck: &[u8], s: &mut [u8]) -> Printed
     requires { (too_large deck.now ≡ false) × (length s.old ≡ lent_size deck.now) }
-    ensures { result ≡ printed_of deck.now }
+    ensures { (result ≡ printed (line_of deck.now)) × (result.length ≤ length result.bytes) }
 {
     let read = deck::read(deck, s);
     match read.answer {
-        Err(fault) => Printed::Refused(fault),
-        Ok(()) => Printed::Ran(processor::run(read.machine, s, 1000000)),
+        Err(fault) => number_line(told::fault_number(fault)),
+        Ok(()) => {
+            let ran = processor::run(read.machine, s, 1000000);
+            run_line(ran.machine, ran.ended)
+        }
     }
 }
 
-/// What the deck runner prints of a deck: a deck that isn't too large is read and, where that isn't refused, run.
-#[tactic(auto, using(crate::proofs::Decided::fits, crate::proofs::Decided::large, crate::proofs::Decided::large_line, crate::proofs::Decided::shown_line))]
+/// The line of a deck: number 18 where the deck has more than 16,532 bytes or asks for more than 64 pages; else, where the reader refuses it,
+/// that refusal's number; else the end of its run of a million steps at most: number, registers, status, steps, Q and R.
+#[tactic(auto, using(crate::proofs::Decided::fits, crate::proofs::Decided::large_line))]
 pub fn line(deck: &[u8]) -> Printed
-    ensures value { result ≡ printed_of deck.now }
-    ensures text { ⟦<Printed as fmt::Display>⟧.output result ≡ Some (line_of deck.now) }
+    ensures { (result ≡ printed (line_of deck.now)) × (result.length ≤ length result.bytes) }
 {
     if too_large(deck) {
-        return Printed::TooLarge;
+        return number_line(18);
     }
     // an array and not a Vec: the library and the programs take nothing from the heap
     let mut storage = [0u8; 16384];
