@@ -1,8 +1,8 @@
 //! Records: their kinds, the machine's record, and whether a page has one.
-ghost use Rattle.std.specs.Prelude.{◌≡◌, ◌≤◌, length, false, MatchResult};
+ghost use Rattle.std.specs.Prelude.{◌≡◌, ◌+◌, ◌≤◌, length, false, MatchResult};
 ghost use Rattle.manual.specs.declared.DeckFault.TheVariants.{KindUnknown};
 ghost use Rattle.deck.specs.Records.{kind_byte};
-ghost use Rattle.manual.specs.Deck.{all_zero, kind_known, record_length, machine_in, machine_record, word};
+ghost use Rattle.manual.specs.Deck.{all_zero, kind_known, over, record_length, machine_in, machine_record, word};
 
 use manual::{DeckFault, Machine};
 
@@ -62,6 +62,17 @@ pub(crate) fn all_zero(page: &[u8]) -> bool
         clear &= *b == 0;
     }
     clear
+}
+
+/// Puts `src` over `dst` from the place `at` on. Byte by byte, which the compiler takes many at a time: `copy_from_slice`, where the length isn't
+/// known, would call the C library's `memmove`, and a host in C owes memcpy and memset alone.
+pub(crate) fn put(dst: &mut [u8], at: usize, src: &[u8])
+    requires { at + length src.now ≤ length dst.old }
+    ensures { dst.new ≡ over dst.old at src.now }
+{
+    for i in 0..src.len() {
+        dst[at + i] = src[i];
+    }
 }
 
 /// The machine of the record at the front of `d`.

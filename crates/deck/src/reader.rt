@@ -100,13 +100,11 @@ impl Page<'_> {
     }
 
     // Lays the page over the storage, at its place.
-    #[tactic(auto, using(crate::proofs::Writing::put_over))]
     fn lay(&self, s: &mut [u8])
         requires { self.now.number * 256 + length self.now.bytes.now ≤ length s.old }
         ensures { s.new ≡ over s.old (self.now.number * 256) self.now.bytes.now }
     {
-        let at = self.number * PAGE;
-        s[at..at + self.bytes.len()].copy_from_slice(self.bytes);
+        format::put(s, self.number * PAGE, self.bytes);
     }
 }
 

@@ -32,7 +32,7 @@ pub(crate) fn deck_length(s: &[u8]) -> usize
 
 // Writes a page's record, if it has one, at the place `at`, and returns the place after it. By a place: what is written is
 // promised of the whole output, and a slice of what is left would have to be put back into it (no plainer).
-#[tactic(auto, using(manual::proofs::Pages::over_none, manual::proofs::Pages::over_two, crate::proofs::Writing::put_over, crate::proofs::Writing::record_room))]
+#[tactic(auto, using(manual::proofs::Pages::over_none, manual::proofs::Pages::over_two, crate::proofs::Writing::record_room))]
 fn write_page(number: u8, bytes: &[u8], out: &mut [u8], at: usize) -> usize
     requires { at + length (page_record number bytes.now) ≤ length out.old }
     ensures value { result ≡ at + length (page_record number bytes.now) }
@@ -41,11 +41,10 @@ fn write_page(number: u8, bytes: &[u8], out: &mut [u8], at: usize) -> usize
     if format::all_zero(bytes) {
         return at;
     }
-    let after = at + 2 + bytes.len();
     out[at] = Kind::Page as u8;
     out[at + 1] = number;
-    out[at + 2..after].copy_from_slice(bytes);
-    after
+    format::put(out, at + 2, bytes);
+    at + 2 + bytes.len()
 }
 
 // Writes the records of the pages behind the first record, and returns the place after them.
