@@ -8,7 +8,7 @@ use Rattle.decode.specs.Fetching.{is_unknown, is_pair_or, unlisted, allows_named
 use Rattle.decode.proofs.Rest.{Rest, Passed, by_rest}
 use Rattle.manual.specs.declared.Operation.{Operation}
 
-is_unknown_lem : (n : Option Operation) → T (is_unknown n) → n ≡ None
+pub is_unknown_lem : (n : Option Operation) → T (is_unknown n) → n ≡ None
 is_unknown_lem None t = refl
 is_unknown_lem (Some op) t = absurd t
 

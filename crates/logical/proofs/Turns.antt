@@ -53,12 +53,12 @@ unfolding so_far
 so_far_is less carry clear = refl
 
 module _ (p : Prog Columns) (r : List ℕ) where
-  columns_one : (column : ℕ → ℕ → ℕ → Column) (n x y : ℕ) (c : Columns) (s : List ℕ)
+  pub columns_one : (column : ℕ → ℕ → ℕ → Column) (n x y : ℕ) (c : Columns) (s : List ℕ)
       → Leads p r (columns column (suc n) x y c) s → Leads p r (columns column n (x - 1) (y - 1) (columns_after column s x y c)) (bytes_next column s x y c)
   unfolding val fin columns
   columns_one column n x y c s h = record { gives = λ v u g. h.gives v u g }
 
-  columns_turn : (column : ℕ → ℕ → ℕ → Column) (n a b : ℕ) (d : Columns) (t : List ℕ) (k x y : ℕ) (c : Columns) (s : List ℕ)
+  pub columns_turn : (column : ℕ → ℕ → ℕ → Column) (n a b : ℕ) (d : Columns) (t : List ℕ) (k x y : ℕ) (c : Columns) (s : List ℕ)
       → Leads p r (columns column k x y c) s → 0 < k → n ≡ k - 1 → a ≡ x - 1 → b ≡ y - 1 → d ≡ columns_after column s x y c → t ≡ bytes_next column s x y c
       → Leads p r (columns column n a b d) t
   columns_turn column n a b d t k x y c s h l e f g u v =

@@ -1,8 +1,8 @@
 -- The status: its order is set, a bit goes on or off, what isn't named stays, and below 64 it stays there. What carries it: each bit is told by a division.
-use Rattle.std.proofs.Common.{◌≡◌, ℕ, ◌/◌, ◌%◌, ◌<◌, arith, ℤ}
+use Rattle.std.proofs.Common.{◌≡◌, ap, ℕ, ◌+◌, ◌-◌, ◌/◌, ◌%◌, ◌<◌, arith, ℤ, Bool, true, cond, not, ◌||◌, eqb}
 use Rattle.std.proofs.lemmas.Bool.Decides.{nat_tests}
 use Rattle.manual.specs.declared.Columns.{Columns}
-use Rattle.manual.specs.TheMachine.{test_false, turn_on, turn_off, set_order}
+use Rattle.manual.specs.TheMachine.{binary_overflow, test_false, decimal_overflow, equal, low, high, is_on, turn_on, turn_off, set_order}
 use Rattle.manual.specs.Values.{sign_order, cut_to}
 use Rattle.manual.specs.Zoned.{zoned_status}
 use Rattle.manual.specs.Logical.{sum_status, difference_status}
@@ -10,6 +10,12 @@ use Rattle.manual.specs.Registers.{loaded_status}
 use Rattle.manual.specs.Branches.{after_test}
 
 -- ---- an order fits in its three bits
+
+pub order_fits : (z t : Bool) → cond z equal (cond t low high) < 8
+order_fits z t = grind (arith, nat_tests)
+
+pub borrow_fits : (z t : Bool) → cond z equal (cond t high low) < 8
+borrow_fits z t = grind (arith, nat_tests)
 
 pub sign_small : (x : ℤ) → sign_order x < 8
 unfolding sign_order
@@ -24,6 +30,13 @@ order_set o status h = omega arith
 pub order_leaves : (o status : ℕ) → o < 8 → set_order o status / 8 ≡ status / 8
 unfolding set_order
 order_leaves o status h = omega arith
+
+-- the same bits beside the order are the same overflow, and the same bits above
+pub overflow_same : (x y : ℕ) → x / 8 ≡ y / 8 → is_on binary_overflow x ≡ is_on binary_overflow y
+overflow_same x y e = let q : x / 32 ≡ y / 32 = omega arith in ap (λ (v : ℕ). eqb (v % 2) 1) q
+
+pub above_same : (x y : ℕ) → x / 8 ≡ y / 8 → (x / 16 ≡ y / 16) × (x / 64 ≡ y / 64)
+above_same x y e = (omega arith, omega arith)
 
 -- ---- the status stays below 64
 

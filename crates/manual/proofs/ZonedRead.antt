@@ -1,7 +1,7 @@
 -- The field that AZ, SZ and ZAZ leave, read back, is the exact signed result cut to it. What carries it: the digits written from the right are those of the cut size.
 use Rattle.std.proofs.Common.{Ok, ◌≡◌, refl, sym, ◌∙◌, ap, Bool, true, false, cond, not, ◌&&◌, ◌||◌, List, ◌↔◌, ◌≢◌, ℕ, zero, suc, ◌+◌, ◌-◌, ◌*◌, ◌/◌, ◌%◌, ◌^◌, ◌≤◌, ◌<◌, arith, mod-eq_of_lt, length, get_or, set, length-set, get_or-set_same, get_or-set_other, eqb, leb, ℤ, pos, negsuc, nat_abs, ◌+ℤ◌, ◌-ℤ◌, leb-false, le-leb}
 use Rattle.std.proofs.lemmas.Bool.Decides.{nat_tests}
-use Rattle.std.proofs.Math.Nat.{mod-mod, sub-zero}
+use Rattle.std.proofs.Math.Nat.{zero-mod, mod-mod, sub-zero}
 use Rattle.std.proofs.Math.Dec.{eqb-suc-zero}
 use Rattle.manual.specs.declared.Machine.{Machine}
 use Rattle.manual.specs.declared.Fields.{Fields}
@@ -228,6 +228,10 @@ abs_value bs = abs_signed (minus bs) (size bs)
 pub cut_signed : (n : ℕ) (x : ℤ) → signed (left_minus n x) (cut n x) ≡ cut_to n x
 unfolding left_minus
 cut_signed n x = signed_gone (negative x) (cut n x)
+
+pub cut_none : (n : ℕ) → cut n (pos 0) ≡ 0
+unfolding cut
+cut_none n = zero-mod (10 ^ n)
 
 pub cut_cut : (n : ℕ) (x : ℤ) → cut n x % 10 ^ n ≡ cut n x
 unfolding cut
