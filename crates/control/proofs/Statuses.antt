@@ -1,5 +1,7 @@
 -- The status after BC and JC as the mask gives it. What carries it: one computed test of every status under every pick.
-use Rattle.std.proofs.Common.{◌≡◌, refl, sym, ◌∙◌, Bool, true, eqb, ℕ, ◌-◌, ◌*◌, ◌/◌, ◌%◌, ◌<◌, arith, bit_and, eqb-true}
+use Rattle.std.proofs.Common.{◌≡◌, refl, sym, ◌∙◌, Bool, true, eqb, ℕ, ◌-◌, ◌*◌, ◌/◌, ◌%◌, ◌<◌, ◌≤◌, arith, bit_and, eqb-true}
+use native.Mathlib.Decide.{dec_lt}
+use native.Mathlib.Nat.{div-eq_of_lt}
 use Rattle.std.proofs.lemmas.Bool.{agree_below, agree_below_at}
 use Rattle.manual.specs.TheMachine.{turn_off}
 use Rattle.manual.specs.Branches.{after_test}
@@ -11,18 +13,18 @@ masked k status = bit_and status (255 - k * 8)
 abbrev agrees : ℕ → ℕ → Bool
 agrees k status = eqb (masked k status) (after_test (k * 8) status)
 
-abbrev yes : ℕ → Bool
-yes k = true
+abbrev always : ℕ → Bool
+always k = true
 
 abbrev all_agree : ℕ → Bool
-all_agree k = agree_below (agrees k) yes 256
+all_agree k = agree_below (agrees k) always 256
 
-computed : agree_below all_agree yes 4 ≡ true
+computed : agree_below all_agree always 4 ≡ true
 unfolding after_test turn_off
 computed = refl
 
 each : (k : ℕ) → k < 4 → (status : ℕ) → status < 256 → masked k status ≡ after_test (k * 8) status
-each k h status l = eqb-true _ _ (agree_below_at (agrees k) yes 256 status (agree_below_at all_agree yes 4 k computed h) l)
+each k h status l = eqb-true _ _ (agree_below_at (agrees k) always 256 status (agree_below_at all_agree always 4 k computed h) l)
 
 -- the Q byte tells no more than those two bits
 only_picked : (q status : ℕ) → after_test q status ≡ after_test (q / 8 % 4 * 8) status
@@ -34,3 +36,28 @@ only_picked q status =
 
 pub after : (q status : ℕ) → status < 256 → bit_and status (255 - q / 8 % 4 * 8) ≡ after_test q status
 after q status h = each (q / 8 % 4) (omega arith) status h ∙ sym (only_picked q status)
+
+-- ---- a bit off by its own mask
+
+without_computed : agree_below (λ status. eqb (bit_and status 247) (turn_off 8 status)) always 256 ≡ true
+unfolding turn_off
+without_computed = refl
+
+pub without_overflow : (status : ℕ) → status < 256 → bit_and status 247 ≡ turn_off 8 status
+without_overflow status h = eqb-true _ _ (agree_below_at (λ s. eqb (bit_and s 247) (turn_off 8 s)) always 256 status without_computed h)
+
+test_computed : agree_below (λ status. eqb (bit_and status 239) (turn_off 16 status)) always 256 ≡ true
+unfolding turn_off
+test_computed = refl
+
+pub without_test : (status : ℕ) → status < 256 → bit_and status 239 ≡ turn_off 16 status
+without_test status h = eqb-true _ _ (agree_below_at (λ s. eqb (bit_and s 239) (turn_off 16 s)) always 256 status test_computed h)
+
+-- ---- a bit that is on is at most the number that has it
+
+pub on_below : (x b : ℕ) → x / b % 2 ≡ 1 → b ≤ x
+on_below x b e = go (dec_lt x b)
+  where
+    go : Dec (x < b) → b ≤ x
+    go (yes h) = let z : x / b ≡ 0 = div-eq_of_lt h in absurd (omega arith)
+    go (no h) = omega arith

@@ -114,40 +114,23 @@ fn is_taken(q: u8, status: u8) -> bool
     if q / 128 % 2 == 1 { !none } else { none }
 }
 
-// A picked test false or decimal overflow goes off.
+// A picked test false or decimal overflow goes off: by the mask, which asks nothing of the status before it is there.
 #[tactic(auto, using(crate::proofs::Statuses::after))]
-fn after_test(q: u8, status: u8) -> u8
+fn after_taken(q: u8, status: u8) -> u8
     ensures { result ≡ after_test q status }
 {
     status & (255 - q / 8 % 4 * 8)
 }
 
-// The status with one of its bits off.
-#[tactic(auto, unfolding(manual::specs::TheMachine::turn_off))]
-fn without<const BIT: u8>(status: u8) -> u8
-    requires { 0 < BIT }
-    ensures { result ≡ turn_off BIT status }
-{
-    if status / BIT % 2 == 1 {
-        status - BIT
-    } else {
-        status
-    }
-}
-
-// The same on a taken way, bit by bit and not by the mask: reckoned alike on both ways, the compiler would choose IAR by the status without a branch,
-// and the next fetch would wait for the status.
-#[tactic(auto, unfolding(manual::specs::Branches::after_test))]
-fn after_taken(q: u8, status: u8) -> u8
+// The same on the way that isn't taken, bit by bit and not by the mask: reckoned alike on both ways, the compiler would choose IAR by the status
+// without a branch, and the next fetch would wait for the status.
+#[tactic(auto, unfolding(manual::specs::Branches::after_test), using(crate::proofs::Statuses::without_overflow, crate::proofs::Statuses::without_test))]
+fn after_test(q: u8, status: u8) -> u8
     ensures { result ≡ after_test q status }
 {
-    let status = if q / 8 % 2 == 1 {
-        without::<8>(status)
-    } else {
-        status
-    };
+    let status = if q / 8 % 2 == 1 { status & 247 } else { status };
     if q / 16 % 2 == 1 {
-        without::<16>(status)
+        status & 239
     } else {
         status
     }

@@ -75,13 +75,29 @@ fn inner(m: &mut Machine, s: &mut [u8]) -> Result<(), Stop>
 
 // ---- the loop: the budget is tested before each fetch
 
+// The machine that runs, taken over field by field: copied whole, the byte that pads its record would take a register of the loop.
+#[tactic(auto, using(crate::proofs::Records::taken_over))]
+fn taken_over(m: Machine) -> Machine
+    ensures { result ≡ m }
+{
+    let w = m.wr;
+    Machine {
+        iar: m.iar,
+        arr: m.arr,
+        xr1: m.xr1,
+        xr2: m.xr2,
+        wr: [w[0], w[1], w[2], w[3]],
+        status: m.status,
+    }
+}
+
 // A call of its own: within `run` the compiler gives the loop 7 to 17 instructions a step more.
 #[inline(never)]
 #[tactic(auto, unfolding(manual::specs::Run::turns_of))]
 fn turns(m: Machine, s: &mut [u8], budget: u32) -> Ran
     ensures { ran_outcome result s.new ≡ turns_of m s.old budget }
 {
-    let mut machine = m;
+    let mut machine = taken_over(m);
     for steps in 0..budget {
         if let Err(stop) = inner(&mut machine, s) {
             return ran(machine, Answer::Stopped(stop), steps);
