@@ -1,7 +1,7 @@
 //! ZAZ, AZ and SZ: each does what its rule says. A zoned field is a slice of storage, its units last.
 #![tactic(auto)]
 
-ghost use Rattle.std.specs.Prelude.{◌≡◌, ◌↔◌, true, false, cond, not, ◌+◌, ◌-◌, ◌*◌, ◌/◌, ◌%◌, ◌^◌, ◌<◌, ◌≤◌, eqb, ◌+ℤ◌, ◌-ℤ◌, length, take};
+ghost use Rattle.std.specs.Prelude.{◌≡◌, ◌↔◌, true, false, cond, not, ◌+◌, ◌-◌, ◌*◌, ◌/◌, ◌%◌, ◌^◌, ◌<◌, ◌≤◌, eqb, ◌+ℤ◌, ◌-ℤ◌, length, drop};
 ghost use Rattle.manual.specs.TheMachine.{decimal_overflow, turn_on};
 ghost use Rattle.manual.specs.Values.{bytes_of, digit, size, minus, value, all_digits, digits_of};
 ghost use Rattle.manual.specs.Zoned.{l1, l2, zaz, az, sz};
@@ -326,13 +326,15 @@ fn combined<const LESS: bool>(field: &mut [u8], second: &[u8], status: u8) -> u8
     difference(field, second, m1, status)
 }
 
-// Operand 2 as it was: an overlap must not change a digit before it is taken. An array and not a Vec: the library has no heap.
+// Operand 2 as it was, at the copy's end: an overlap must not change a digit before it is taken. An array and not a Vec: the library has no heap.
+// At the end and not at the front, where the compiler would clear what is left by a call.
+#[tactic(auto, using(crate::proofs::Combining::at_end))]
 fn copied(second: &[u8]) -> [u8; 16]
     requires { length second.now ≤ 16 }
-    ensures { take (length second.now) result ≡ second.now }
+    ensures { drop (16 - length second.now) result ≡ second.now }
 {
     let mut copy = [0u8; 16];
-    copy[..second.len()].copy_from_slice(second);
+    copy[16 - second.len()..].copy_from_slice(second);
     copy
 }
 
@@ -341,10 +343,11 @@ fn put_second(s: &mut [u8], f: Fields, status: u8) -> u8
     requires { Ready s.old f.q f.a1 f.a2 }
     ensures { Left s.old (l1 f.q) f.a1 status (value (bytes_of s.old (l2 f.q) f.a2)) result s.new }
 {
+    // by `as`: with `usize::from` the proof doesn't close, here and in the next
     let (n, k) = (l1(f.q), l2(f.q));
-    let a = usize::from(f.a1);
-    let copy = copied(field(s, k, usize::from(f.a2)));
-    put_value(&mut s[a + 1 - n..a + 1], &copy[..k], status)
+    let a = f.a1 as usize;
+    let copy = copied(field(s, k, f.a2 as usize));
+    put_value(&mut s[a + 1 - n..a + 1], &copy[16 - k..], status)
 }
 
 // The same of AZ and SZ: one function with a closure for the last line is no plainer.
@@ -353,11 +356,10 @@ fn combine_second<const LESS: bool>(s: &mut [u8], f: Fields, status: u8) -> u8
     requires a1_value { all_digits (bytes_of s.old (l1 f.q) f.a1) ≡ true }
     ensures { Left s.old (l1 f.q) f.a1 status (cond LESS ◌-ℤ◌ ◌+ℤ◌ (value (bytes_of s.old (l1 f.q) f.a1)) (value (bytes_of s.old (l2 f.q) f.a2))) result s.new }
 {
-    // by `as`: with `usize::from` the proof doesn't close
     let (n, k) = (l1(f.q), l2(f.q));
     let a = f.a1 as usize;
     let copy = copied(field(s, k, f.a2 as usize));
-    combined::<LESS>(&mut s[a + 1 - n..a + 1], &copy[..k], status)
+    combined::<LESS>(&mut s[a + 1 - n..a + 1], &copy[16 - k..], status)
 }
 
 // ---- the leaves
