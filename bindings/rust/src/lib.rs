@@ -154,7 +154,7 @@ impl Machine {
 
     /// Writes the deck of this machine and its storage to the front of `out`, and answers its length; the bytes after it stay. A refusal leaves `out`.
     pub fn write(&self, storage: &[u8], out: &mut [u8]) -> Result<usize, WriteError> {
-        // The library stores the machine that it was lent, so it is lent a copy.
+        // The call takes a record that it may write, so it is lent a copy.
         let mut copy = *self;
         // SAFETY: as in `step`.
         let told = unsafe { library::aqtovmesh_write(&mut copy, storage.as_ptr(), storage.len(), out.as_mut_ptr(), out.len()) };
