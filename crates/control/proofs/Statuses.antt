@@ -37,21 +37,15 @@ only_picked q status =
 pub after : (q status : ℕ) → status < 256 → bit_and status (255 - q / 8 % 4 * 8) ≡ after_test q status
 after q status h = each (q / 8 % 4) (omega arith) status h ∙ sym (only_picked q status)
 
--- ---- a bit off by its own mask
-
-without_computed : agree_below (λ status. eqb (bit_and status 247) (turn_off 8 status)) always 256 ≡ true
-unfolding turn_off
-without_computed = refl
+-- ---- one bit off by its own mask
 
 pub without_overflow : (status : ℕ) → status < 256 → bit_and status 247 ≡ turn_off 8 status
-without_overflow status h = eqb-true _ _ (agree_below_at (λ s. eqb (bit_and s 247) (turn_off 8 s)) always 256 status without_computed h)
-
-test_computed : agree_below (λ status. eqb (bit_and status 239) (turn_off 16 status)) always 256 ≡ true
-unfolding turn_off
-test_computed = refl
+unfolding after_test
+without_overflow status h = each 1 (omega arith) status h
 
 pub without_test : (status : ℕ) → status < 256 → bit_and status 239 ≡ turn_off 16 status
-without_test status h = eqb-true _ _ (agree_below_at (λ s. eqb (bit_and s 239) (turn_off 16 s)) always 256 status test_computed h)
+unfolding after_test
+without_test status h = each 2 (omega arith) status h
 
 -- ---- a bit that is on is at most the number that has it
 

@@ -114,7 +114,7 @@ fn is_taken(q: u8, status: u8) -> bool
     if q / 128 % 2 == 1 { !none } else { none }
 }
 
-// A picked test false or decimal overflow goes off: by the mask, which asks nothing of the status before it is there.
+// A picked test false or decimal overflow goes off: by one mask, the fewest instructions, since a loop's branches are mostly taken.
 #[tactic(auto, using(crate::proofs::Statuses::after))]
 fn after_taken(q: u8, status: u8) -> u8
     ensures { result ≡ after_test q status }
@@ -123,7 +123,7 @@ fn after_taken(q: u8, status: u8) -> u8
 }
 
 // The same on the way that isn't taken, bit by bit and not by the mask: reckoned alike on both ways, the compiler would choose IAR by the status
-// without a branch, and the next fetch would wait for the status.
+// without a branch, and the next fetch would wait for the status. 247 leaves decimal overflow out, 239 test false.
 #[tactic(auto, unfolding(manual::specs::Branches::after_test), using(crate::proofs::Statuses::without_overflow, crate::proofs::Statuses::without_test))]
 fn after_test(q: u8, status: u8) -> u8
     ensures { result ≡ after_test q status }

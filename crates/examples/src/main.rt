@@ -151,6 +151,7 @@ fn print_stretches<W: Write>(output: &mut W, line: &[u8], s: &[u8]) -> io::Resul
             Piece::Blank => {}
             Piece::Byte(_) => {
                 let byte = at(s, a);
+                // by hand: a line may have thousands of bytes, and each would be formatted
                 output.write_all(&[digit(byte / 16), digit(byte % 16)])?;
                 a = a.saturating_add(1);
             }
