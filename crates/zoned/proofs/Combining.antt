@@ -1,7 +1,7 @@
 -- What the columns of two fields leave, finished, is their exact sum or difference, and what a copy of operand 2 leaves is its value. What carries it: the sum of the columns is that size, or ten to the n more.
 use mathlib.Core.Path.{◌≡◌, refl, sym, ap, ◌∙◌}
 use mathlib.Core.Bool.{Bool, true, false, cond, not, beq}
-use mathlib.Core.List.{List, ◌++◌, append-nil}
+use mathlib.Core.List.{List, [], ◌++◌, append-nil}
 use Prim.Native.Nat.{ℕ, ◌+◌, ◌-◌, ◌/◌, ◌%◌, ◌^◌, ◌≤◌, ◌<◌}
 use native.Mathlib.Decide.{dec_le, dec_lt}
 use native.Mathlib.Nat.{zero-mod, add-mod_right, mod-eq_of_lt, div-eq_of_lt, div-eq_of_lt-le, pow-le-pow_right}
@@ -13,7 +13,7 @@ use lib.Seq.{take_all, drop_at}
 use Rattle.std.proofs.Math.ListN.{drop_of_length-le}
 use borrow.Author.Tests.{le-leb, lt-leb, leb-true, leb-false, eq-eqb, ne_eqb}
 use borrow.Rule.Slice.PartMut.{put_mid}
-use Rattle.std.proofs.lemmas.List.{length-take-le, length-drop, length-append, get_or_append_left}
+use Rattle.std.proofs.lemmas.List.{length-take-le, length-drop, length-append, get_or_append_left, take-replicate}
 use Rattle.manual.specs.Values.{bytes_of, digit, size, minus, value, all_digits, cut, left_minus}
 use Rattle.manual.specs.Zoned.{l1, l2, zoned_status}
 use Rattle.manual.proofs.Digits.{ten_pos, digit_at}
@@ -224,15 +224,20 @@ module _ (f d : List ℕ) (fits : Fits f d) (zs e t : List ℕ) (zero : zs ≡ r
         omega (arith, size_below d (length d) (length d - 1) fits.digits, pow-le-pow_right {n = 10} (omega arith) {i = length d} {j = length f} fits.shorter) in
         rw (← i) (settled f status m m g false nonzero refl (sym (lt-leb (10 ^ length f) m small)) t r u value_held h p)
 
--- a list put at the end of another is what stands there
-pub at_end : (a k : ℕ) (xs ys zs : List ℕ) → ys ≡ zs → a ≤ length xs → a + k ≡ length xs → drop a (put_mid a k xs ys) ≡ zs
-at_end a k xs ys zs e h l =
-    drop_at (take a xs) (ys ++ drop k (drop a xs)) a (length-take-le a xs h) ∙ ap (λ (t : List ℕ). ys ++ t) (drop_of_length-le (drop a xs) {i = k} (omega (arith, length-drop a xs))) ∙ append-nil _ ∙ e
+-- a list put at the end of zeros stands behind those that are left
+pub at_end : (m a k : ℕ) (ys zs : List ℕ) → ys ≡ zs → a ≤ m → a + k ≡ m → put_mid a k (replicate m 0) ys ≡ replicate a 0 ++ zs
+at_end m a k ys zs e h l =
+    let cleared : List ℕ = replicate m 0 in
+    let whole : length cleared ≡ m = length-replicate m 0 in
+    let front : take a cleared ≡ replicate a 0 = take-replicate a m 0 h in
+    let rest : drop k (drop a cleared) ≡ [] = drop_of_length-le (drop a cleared) {i = k} (omega (arith, length-drop a cleared, whole)) in
+    ap (λ (t : List ℕ). t ++ (ys ++ drop k (drop a cleared))) front ∙ ap (λ (t : List ℕ). replicate a 0 ++ (ys ++ t)) rest
+    ∙ ap (λ (t : List ℕ). replicate a 0 ++ t) (append-nil ys ∙ e)
 
 -- ---- operand 1 in storage as a field, and operand 2's copy: r is operand 2's field, and n and k are what the calls of l1 and l2 answer
 
 module _ (s : List ℕ) (q a1 a2 n k : ℕ) (ready : Ready s q a1 a2) (byte : q < 256) (one : n ≡ l1 q) (two : k ≡ l2 q) (c r : List ℕ)
-    (copied : drop (16 - length r) c ≡ r) (told : (length r ≡ k) × (from_right r ≡ bytes_of s k a2)) where
+    (copied : c ≡ replicate (16 - length r) 0 ++ r) (told : (length r ≡ k) × (from_right r ≡ bytes_of s k a2)) where
   abbrev first : List ℕ
   first = part_of (a1 + 1 - n) (a1 + 1 - (a1 + 1 - n)) s
 
@@ -243,7 +248,10 @@ module _ (s : List ℕ) (q a1 a2 n k : ℕ) (ready : Ready s q a1 a2) (byte : q 
   reaches = omega (arith, ready.fits_one)
 
   second_is : second ≡ r
-  second_is = ap (take (16 - (16 - k))) (rw told.0 at copied) ∙ take_all (16 - (16 - k)) r (omega (arith, told.0, two))
+  second_is =
+      ap (λ (l : List ℕ). part_of (16 - k) (16 - (16 - k)) l) (rw told.0 at copied)
+      ∙ ap (take (16 - (16 - k))) (drop_at (replicate (16 - k) 0) r (16 - k) (length-replicate (16 - k) 0))
+      ∙ take_all (16 - (16 - k)) r (omega (arith, told.0, two))
 
   second_bytes : from_right second ≡ bytes_of s (l2 q) a2
   second_bytes = ap from_right second_is ∙ told.1 ∙ ap (λ (h : ℕ). bytes_of s h a2) two

@@ -1,7 +1,7 @@
 //! ZAZ, AZ and SZ: each does what its rule says. A zoned field is a slice of storage, its units last.
 #![tactic(auto)]
 
-ghost use Rattle.std.specs.Prelude.{◌≡◌, ◌↔◌, true, false, cond, not, ◌+◌, ◌-◌, ◌*◌, ◌/◌, ◌%◌, ◌^◌, ◌<◌, ◌≤◌, eqb, ◌+ℤ◌, ◌-ℤ◌, length, drop};
+ghost use Rattle.std.specs.Prelude.{◌≡◌, ◌↔◌, true, false, cond, not, ◌+◌, ◌-◌, ◌*◌, ◌/◌, ◌%◌, ◌^◌, ◌<◌, ◌≤◌, eqb, ◌+ℤ◌, ◌-ℤ◌, ◌++◌, length, replicate};
 ghost use Rattle.manual.specs.TheMachine.{decimal_overflow, turn_on};
 ghost use Rattle.manual.specs.Values.{bytes_of, digit, size, minus, value, all_digits, digits_of};
 ghost use Rattle.manual.specs.Zoned.{l1, l2, zaz, az, sz};
@@ -331,7 +331,7 @@ fn combined<const LESS: bool>(field: &mut [u8], second: &[u8], status: u8) -> u8
 #[tactic(auto, using(crate::proofs::Combining::at_end))]
 fn copied(second: &[u8]) -> [u8; 16]
     requires { length second.now ≤ 16 }
-    ensures { drop (16 - length second.now) result ≡ second.now }
+    ensures { result ≡ replicate (16 - length second.now) 0 ++ second.now }
 {
     let mut copy = [0u8; 16];
     copy[16 - second.len()..].copy_from_slice(second);
