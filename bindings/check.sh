@@ -1,5 +1,5 @@
 #!/usr/bin/env bash
-# The bindings against the compiled library: layout and tests on both sides, and the example hosts in C and Rust, which print and write the same.
+# The bindings against the compiled library: what the archive asks for, layout and tests on both sides, and the example hosts in C and Rust, which print and write the same.
 # Takes the archive of `make lib`; everything built goes under target/bindings.
 set -euo pipefail
 cd "$(dirname "$0")/.."
@@ -8,6 +8,10 @@ archive=target/lib/libaqtovmesh.a
 built=target/bindings
 export CARGO_TARGET_DIR="$PWD/$built/cargo" AQTOVMESH_LIB="$PWD/target/lib"
 mkdir -p "$built"
+
+# what the header says that the archive takes from the C library: a host without one supplies just these
+asked=$(nm -u "$archive" | sed -n 's/^ *U //p' | sort -u | tr '\n' ' ')
+[ "$asked" = "memcpy memset " ] || { echo "the archive asks for: $asked"; exit 1; }
 
 # a C++ host includes the same header
 if command -v g++ >/dev/null; then g++ -std=c++17 -Wall -Wextra -Werror -fsyntax-only -x c++ bindings/include/aqtovmesh.h; fi
